@@ -1,0 +1,4 @@
+-- Laws of the definitions of specs/.
+pub mod Walk
+pub mod Starts
+pub mod Cut

@@ -1,0 +1,4 @@
+-- What a sound picture gives, and what makes a picture sound.
+pub mod Sound
+pub mod View
+pub mod Same

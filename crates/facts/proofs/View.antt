@@ -1,0 +1,472 @@
+-- Soundness gives the facts, and the facts give soundness.
+use Prim.Native.Nat.{ℕ, _+_, _%_, _≤_, _<_}
+use mathlib.Core.Path.{_≡_, refl, sym, ap, _∙_, subst}
+use mathlib.Core.Bool.{Bool, true, false, _&&_, _||_, not}
+use mathlib.Core.Logic.{⊎-elim, _⊎_, inl, inr}
+use mathlib.Core.List.{List}
+use native.Mathlib.Omega.{arith}
+use lib.ListN.{length}
+use lib.Dec.{leb, ltb, eqb}
+use borrow.Author.Tests.{leb-true, ltb-true, eqb-true, eqb-false, eq-eqb, ne-eqb, le-leb, lt-leb, lt-ltb, not-true}
+use Rattle.words.specs.Words.{word}
+use Rattle.words.specs.Each.{every, In}
+use Rattle.words.proofs.Tests.{both, either, failing, unless, false-true, lt-or-ge}
+use Rattle.words.proofs.Each.{every-at, every-by}
+use Rattle.picture.specs.Layout.{nobody, size-word, least-size, greatest-size, current-word, last-word, greatest-tag, heap-word, zero-word, heap-base, positions, width, upto}
+use Rattle.picture.specs.Records.{field, number, owner, base, priority, accumulated, timeout, waited-for, ending, used, ready}
+use Rattle.picture.specs.Numbers.{tag, position, live}
+use Rattle.picture.specs.declared.Table.{Table}
+use Rattle.picture.specs.declared.Table.the-variants.{Jobs, Channels}
+use Rattle.picture.specs.declared.Area.{Area}
+use Rattle.picture.specs.declared.Area.the-variants.{Heap, Transient}
+use Rattle.picture.proofs.Records.{used-below}
+use Rattle.blocks.specs.Header.{size, kind, kind-of, queue-kind, job-kind, free, holder, start, queue-length, queue-oldest, queue-count, queue-zero, rounded}
+use Rattle.blocks.specs.Walk.{good, next, blocks}
+use Rattle.blocks.proofs.Walk.{Good, good-is, is-good}
+use Rattle.matching.specs.Match.{area-of, first, claims, claimed, housed}
+use Rattle.matching.proofs.Matched.{Matched, matched, matched-housed, matched-claimed}
+use Rattle.records.specs.Rules.{greatest-priority, hold, greatest-timeout, may-be-unowned, zero-base, priority-within, accumulated-within, timeout-within, ends-in-one, blank, positioned, zero-exists, tag-within, tags-differ, tag-once, owner-live, owner-older, zero-unowned, tag-given, waits-well, idle-zero}
+use Rattle.areas.specs.Rules.{longest-queue, length-whole, kind-known, start-zero, free-blank, queue-room, tiles, untouched, kind-fits, holder-live}
+use Rattle.sound.specs.Whole.{size-right, zero-right, heap-right, last-within, current-ready}
+use Rattle.sound.specs.Sound.{rules, sound}
+use Rattle.sound.proofs.Holds.{Holds, AllHold, nth, sound-holds, sound-by}
+use Rattle.facts.proofs.Sound.{Sizes, Queue, Waits, Owned, Entries, Jobs-fine, Channels-fine, Fits, Tiled, Current, Sound}
+
+-- an entry with a block is in use
+pub claims-used : (p : List ℕ) (t : Table) (k : ℕ) → claims p t k ≡ true → used p t k ≡ true
+unfolding claims
+claims-used p t k h = both (leb (first t) k) (used p t k) h .1
+
+-- from a test to its fact, rule by rule
+module _ (p : List ℕ) where
+  unused-by : (t : Table) (k f : ℕ) → blank p t k ≡ true → f < width t → used p t k ≡ false → field p t k f ≡ 0
+  unfolding blank
+  unused-by t k f h l u = eqb-true _ _ (every-at (λ (g : ℕ). eqb (field p t k g) 0) (width t) (failing _ _ h u) f l)
+
+  below : (t : Table) (j k : ℕ) → tag-once p t k ≡ true → j < k → used p t j ≡ true → used p t k ≡ true → tag (number p t j) ≡ tag (number p t k) → ⊥
+  unfolding tag-once tags-differ
+  below t j k h l u v e =
+      let y = every-at (tags-differ p t k) k (unless _ _ h v) j l in
+      let w = unless _ _ y u in
+      eqb-false _ _ (not-true _ w) e
+
+  once-by : (t : Table) → ((k : ℕ) → k < positions t → tag-once p t k ≡ true) → (j k : ℕ) → used p t j ≡ true → used p t k ≡ true → tag (number p t j) ≡ tag (number p t k) → j ≡ k
+  once-by t r j k u v e =
+      ⊎-elim (λ l. absurd (below t j k (r k (used-below p t k v)) l u v e))
+      (λ (l : k ≤ j). ⊎-elim (λ (m : k < j). absurd (below t k j (r j (used-below p t j u)) m v u (sym e))) (λ (m : j ≤ k). omega arith) (lt-or-ge k j))
+      (lt-or-ge j k)
+
+  tagged-by : (t : Table) (k : ℕ) → tag-within p t k ≡ true → claims p t k ≡ true → (1 ≤ tag (number p t k)) × (tag (number p t k) ≤ greatest-tag)
+  unfolding tag-within
+  tagged-by t k h c = let a = both _ _ (unless _ _ h c) in (leb-true _ _ (a .0), leb-true _ _ (a .1))
+
+  owned-by : (t : Table) (k : ℕ) → owner-live p t k ≡ true → used p t k ≡ true → Owned p (may-be-unowned t) (owner p t k)
+  unfolding owner-live
+  owned-by t k h u = ⊎-elim (λ e. let a = both _ _ e in inl (a .0, eqb-true _ _ (a .1))) inr (either _ _ (unless _ _ h u))
+
+  entries-by : (t : Table) → ((k : ℕ) → k < positions t → blank p t k ≡ true) → ((k : ℕ) → k < positions t → positioned p t k ≡ true) → ((k : ℕ) → k < positions t → tag-within p t k ≡ true)
+      → ((k : ℕ) → k < positions t → tag-once p t k ≡ true) → ((k : ℕ) → k < positions t → owner-live p t k ≡ true) → ((k : ℕ) → k < positions t → tag-given p t k ≡ true) → Entries p t
+  unfolding positioned tag-given
+  entries-by t a b c d e f = record {
+    unused = λ k g l m u. unused-by t k g (a k l) m u;
+    place = λ k u. eqb-true _ _ (unless _ _ (b k (used-below p t k u)) u);
+    tagged = λ k h. tagged-by t k (c k (used-below p t k (claims-used p t k h))) h;
+    once = once-by t d;
+    owned = λ k u. owned-by t k (e k (used-below p t k u)) u;
+    given = λ k u. leb-true _ _ (unless _ _ (f k (used-below p t k u)) u);
+  }
+
+  waits-by : (k : ℕ) → waits-well p k ≡ true → (waited-for p k ≡ 0) ⊎ Waits p k
+  unfolding waits-well
+  waits-by k h = ⊎-elim
+      (λ e. inl (eqb-true _ _ e))
+      (λ e. let a = both _ _ e in let b = both _ _ (a .1) in inr (record { alive = a .0; other = eqb-false _ _ (not-true _ (b .0)); forever = eqb-true _ _ (b .1) }))
+      (either _ _ h)
+
+  queue-by : (i : ℕ) → queue-room p i ≡ true → kind p i ≡ queue-kind → Queue p i
+  unfolding queue-room
+  queue-by i h q =
+      let a = both _ _ (unless _ _ h (eq-eqb _ _ q)) in
+      let b = both _ _ (a .1) in
+      let c = both _ _ (b .1) in
+      let d = both _ _ (c .1) in
+      let e = both _ _ (d .1) in
+      record { least = leb-true _ _ (a .0); most = leb-true _ _ (b .0); long = eqb-true _ _ (c .0); oldest = ltb-true _ _ (d .0); held = leb-true _ _ (e .0); nought = eqb-true _ _ (e .1) }
+
+  lone-by : (i e : ℕ) → untouched p e i ≡ true → kind p i ≡ 0 → next p i e < e → kind p (next p i e) ≡ 0 → ⊥
+  unfolding untouched
+  lone-by i e h z l q =
+      let a = unless _ _ h (eq-eqb _ _ z) in
+      let b = failing _ _ a (lt-leb e (next p i e) l) in
+      eqb-false (kind p (next p i e)) 0 (not-true _ b) q
+
+  fits-by : (a : Area) (i : ℕ) → kind-known p i ≡ true → kind-fits p a i ≡ true → Fits a (kind p i)
+  unfolding kind-known kind-fits
+  fits-by Heap i k h = let a = leb-true (kind p i) 3 k in let b = eqb-false (kind p i) job-kind (not-true _ h) in omega arith
+  fits-by Transient i k h =
+      let a = leb-true (kind p i) 3 k in
+      ⊎-elim (λ e. inl (eqb-true _ _ e)) (λ (e : leb job-kind (kind p i) ≡ true). let b = leb-true job-kind (kind p i) e in inr (omega arith)) (either _ _ h)
+
+  good-by : (i e : ℕ) → length-whole p i ≡ true → tiles p e i ≡ true → good p i e ≡ true
+  unfolding length-whole tiles
+  good-by i e h g = let a = both _ _ h in good-is p i e (record { whole = eqb-true _ _ (a .0); least = leb-true _ _ (a .1); within = leb-true _ _ g })
+
+  held-by : (i : ℕ) → holder-live p i ≡ true → (kind p i ≡ 0) ⊎ (((kind p i ≡ job-kind) × (holder p i ≡ nobody)) ⊎ (live p Jobs (holder p i) ≡ true))
+  unfolding holder-live
+  held-by i h = ⊎-elim (λ e. inl (eqb-true _ _ e)) (λ e. inr (⊎-elim (λ f. let b = both _ _ f in inl (eqb-true _ _ (b .0), eqb-true _ _ (b .1))) inr (either _ _ e))) (either _ _ h)
+
+  tiled-by : (a : Area) → ((i : ℕ) → In i (blocks p a) → length-whole p i ≡ true) → ((i : ℕ) → In i (blocks p a) → kind-known p i ≡ true) → ((i : ℕ) → In i (blocks p a) → start-zero p i ≡ true)
+      → ((i : ℕ) → In i (blocks p a) → free-blank p i ≡ true) → ((i : ℕ) → In i (blocks p a) → queue-room p i ≡ true) → ((i : ℕ) → In i (blocks p a) → tiles p (upto p a) i ≡ true)
+      → ((i : ℕ) → In i (blocks p a) → untouched p (upto p a) i ≡ true) → ((i : ℕ) → In i (blocks p a) → kind-fits p a i ≡ true) → ((i : ℕ) → In i (blocks p a) → holder-live p i ≡ true) → Tiled p a
+  unfolding start-zero free-blank
+  tiled-by a b c d e f g h j k = record {
+    whole = λ i m. good-by i (upto p a) (b i m) (g i m);
+    fits = λ i m. fits-by a i (c i m) (j i m);
+    starts-zero = λ i m. ⊎-elim (λ e. inl (eqb-true _ _ e)) (λ e. inr (eqb-true _ _ e)) (either _ _ (d i m));
+    free-zero = λ i m q. let z = both _ _ (unless _ _ (e i m) (eq-eqb _ _ q)) in (eqb-true _ _ (z .0), eqb-true _ _ (z .1));
+    queue = λ i m q. queue-by i (f i m) q;
+    lone = λ i m. lone-by i (upto p a) (h i m);
+    held = λ i m. held-by i (k i m);
+  }
+
+-- a sound picture has all these facts
+pub view : (p : List ℕ) → sound p ≡ true → Sound p
+unfolding size-right zero-right heap-right last-within current-ready zero-base priority-within accumulated-within timeout-within ends-in-one zero-exists owner-older zero-unowned idle-zero
+view p s =
+    let h : (n : ℕ) → Holds p (nth n rules) = sound-holds p s in
+    let z = both _ _ (h 0) in
+    let z1 = both _ _ (z .1) in
+    let z2 = both _ _ (z1 .1) in
+    let y = both _ _ (h 2) in
+    let y1 = both _ _ (y .1) in
+    let x = both _ _ (unless (eqb 0 0) _ (h 12 0 (omega arith)) refl) in
+    record {
+      sizes = record {
+        long = eqb-true _ _ (z .0);
+        least = leb-true _ _ (z1 .0);
+        most = leb-true _ _ (z2 .0);
+        fours = eqb-true _ _ (z2 .1);
+        heap-fours = eqb-true _ _ (y .0);
+        heap-least = leb-true _ _ (y1 .0);
+        heap-most = subst (λ (n : ℕ). heap-base + word p heap-word + 4 ≤ n) (eqb-true (word p size-word) (length p) (z .0)) (leb-true _ _ (y1 .1));
+        nought = eqb-true _ _ (h 1);
+        last = elim [ Jobs ↦ leb-true _ _ (h 36) | Channels ↦ leb-true _ _ (h 37) ];
+      };
+      jobs = record {
+        entries = entries-by p Jobs (h 8) (h 10) (h 13) (h 15) (h 29) (h 34);
+        zero-lives = x .0;
+        zero-number = eqb-true _ _ (x .1);
+        zero-base = eqb-true _ _ (unless (eqb 0 0) _ (h 3 0 (omega arith)) refl);
+        zero-unowned = eqb-true _ _ (unless (eqb 0 0) _ (h 33 0 (omega arith)) refl);
+        urgent = λ k l. leb-true _ _ (h 4 k l);
+        gained = λ k l. leb-true _ _ (h 5 k l);
+        frames = λ k l. ⊎-elim (λ e. inl (leb-true _ _ e)) (λ e. inr (eqb-true _ _ e)) (either _ _ (h 6 k l));
+        older = λ k u. ⊎-elim (λ e. inl (eqb-true _ _ e)) (λ e. inr (ltb-true _ _ e)) (either _ _ (unless _ _ (h 32 k (used-below p Jobs k u)) u));
+        waits = λ k l. waits-by p k (h 39 k l);
+        idle = λ k l. ⊎-elim (λ e. inl (eqb-true _ _ e)) inr (either _ _ (h 40 k l));
+      };
+      channels = record {
+        entries = entries-by p Channels (h 9) (h 11) (h 14) (h 16) (h 30) (h 35);
+        one = λ k u. eqb-true _ _ (unless _ _ (h 7 k (used-below p Channels k u)) u);
+      };
+      tiled = λ a. tiled-by p a (h 17 a) (h 18 a) (h 19 a) (h 20 a) (h 21 a) (h 22 a) (h 23 a) (h 24 a) (h 31 a);
+      matched = elim [ Jobs ↦ matched p Jobs (h 25 Transient) (h 26) | Channels ↦ matched p Channels (h 27 Heap) (h 28) ];
+      current = ⊎-elim (λ e. inl (eqb-true _ _ e)) (λ e. let b = both _ _ e in inr (b .0, b .1)) (either _ _ (h 38));
+    }
+
+-- from a fact to its test, rule by rule
+or-left : (a b : Bool) → a ≡ true → a || b ≡ true
+or-left a b h = rw h
+
+or-right : (a b : Bool) → b ≡ true → a || b ≡ true
+or-right true b h = refl
+or-right false b h = h
+
+when : (a b : Bool) → (a ≡ true → b ≡ true) → not a || b ≡ true
+when true b h = h refl
+when false b h = refl
+
+or-when : (a b : Bool) → (a ≡ false → b ≡ true) → a || b ≡ true
+or-when true b h = refl
+or-when false b h = h refl
+
+not-false-is : (b : Bool) → b ≡ false → not b ≡ true
+not-false-is b h = rw h
+
+module _ (p : List ℕ) where
+  zero-case : (k : ℕ) (b : Bool) → (k ≡ 0 → b ≡ true) → not (eqb k 0) || b ≡ true
+  zero-case k b h = when (eqb k 0) b (λ e. h (eqb-true k 0 e))
+
+  owned-is : (may : Bool) (n : ℕ) → Owned p may n → (may && eqb n nobody) || live p Jobs n ≡ true
+  owned-is may n (inl e) = or-left (may && eqb n nobody) _ (rw (e .0, eq-eqb n nobody (e .1)))
+  owned-is may n (inr e) = or-right (may && eqb n nobody) _ e
+
+  module _ (t : Table) (E : Entries p t) where
+    is-blank : (k : ℕ) → k < positions t → blank p t k ≡ true
+    unfolding blank
+    is-blank k l = or-when (used p t k) _ (λ u. every-by (λ (f : ℕ). eqb (field p t k f) 0) (width t) (λ f m. eq-eqb _ _ (E .unused k f l m u)))
+
+    is-positioned : (k : ℕ) → k < positions t → positioned p t k ≡ true
+    unfolding positioned
+    is-positioned k l = when (used p t k) _ (λ u. eq-eqb _ _ (E .place k u))
+
+    is-tagged : (k : ℕ) → k < positions t → tag-within p t k ≡ true
+    unfolding tag-within
+    is-tagged k l = when (claims p t k) _ (λ c. let g = E .tagged k c in rw (le-leb _ _ (g .0), le-leb _ _ (g .1)))
+
+    is-once : (k : ℕ) → k < positions t → tag-once p t k ≡ true
+    unfolding tag-once tags-differ
+    is-once k l = when (used p t k) _ (λ u. every-by (tags-differ p t k) k (λ j m. when (used p t j) _ (λ v. not-false-is _ (ne-eqb _ _ (λ e. apart j m (E .once j k v u e))))))
+      where
+        apart : (j : ℕ) → j < k → j ≡ k → ⊥
+        apart j m z = omega arith
+
+    is-owned : (k : ℕ) → k < positions t → owner-live p t k ≡ true
+    unfolding owner-live
+    is-owned k l = when (used p t k) _ (λ u. owned-is (may-be-unowned t) (owner p t k) (E .owned k u))
+
+    is-given : (k : ℕ) → k < positions t → tag-given p t k ≡ true
+    unfolding tag-given
+    is-given k l = when (used p t k) _ (λ u. le-leb _ _ (E .given k u))
+
+  module _ (J : Jobs-fine p) where
+    is-zero-base : (k : ℕ) → k < positions Jobs → zero-base p k ≡ true
+    unfolding zero-base
+    is-zero-base k l = zero-case k _ (λ (e : k ≡ 0). rw e (eq-eqb _ _ (J .zero-base)))
+
+    is-zero-exists : (k : ℕ) → k < positions Jobs → zero-exists p k ≡ true
+    unfolding zero-exists
+    is-zero-exists k l = zero-case k _ (λ (e : k ≡ 0). rw e (rw (J .zero-lives, eq-eqb _ _ (J .zero-number))))
+
+    is-zero-unowned : (k : ℕ) → k < positions Jobs → zero-unowned p k ≡ true
+    unfolding zero-unowned
+    is-zero-unowned k l = zero-case k _ (λ (e : k ≡ 0). rw e (eq-eqb _ _ (J .zero-unowned)))
+
+    is-urgent : (k : ℕ) → k < positions Jobs → priority-within p k ≡ true
+    unfolding priority-within
+    is-urgent k l = le-leb _ _ (J .urgent k l)
+
+    is-gained : (k : ℕ) → k < positions Jobs → accumulated-within p k ≡ true
+    unfolding accumulated-within
+    is-gained k l = le-leb _ _ (J .gained k l)
+
+    is-frames : (k : ℕ) → k < positions Jobs → timeout-within p k ≡ true
+    unfolding timeout-within
+    is-frames k l = ⊎-elim (λ e. or-left (leb (timeout p k) greatest-timeout) _ (le-leb _ _ e)) (λ e. or-right (leb (timeout p k) greatest-timeout) _ (eq-eqb _ _ e)) (J .frames k l)
+
+    is-older : (k : ℕ) → k < positions Jobs → owner-older p k ≡ true
+    unfolding owner-older
+    is-older k l = when (used p Jobs k) _ (λ u. ⊎-elim (λ e. or-left (eqb (owner p Jobs k) nobody) _ (eq-eqb _ _ e)) (λ e. or-right (eqb (owner p Jobs k) nobody) _ (lt-ltb _ _ e)) (J .older k u))
+
+    is-waits : (k : ℕ) → k < positions Jobs → waits-well p k ≡ true
+    unfolding waits-well
+    is-waits k l = ⊎-elim
+        (λ e. or-left (eqb (waited-for p k) 0) _ (eq-eqb _ _ e))
+        (λ (w : Waits p k). or-right (eqb (waited-for p k) 0) (live p Jobs (waited-for p k) && (not (eqb (waited-for p k) (number p Jobs k)) && eqb (timeout p k) nobody)) (rw (w .alive, ne-eqb _ _ (w .other), eq-eqb _ _ (w .forever))))
+        (J .waits k l)
+
+    is-idle : (k : ℕ) → k < positions Jobs → idle-zero p k ≡ true
+    unfolding idle-zero
+    is-idle k l = ⊎-elim (λ e. or-left (eqb (accumulated p k) 0) _ (eq-eqb _ _ e)) (λ e. or-right (eqb (accumulated p k) 0) _ e) (J .idle k l)
+
+  is-one : Channels-fine p → (k : ℕ) → k < positions Channels → ends-in-one p k ≡ true
+  unfolding ends-in-one
+  is-one C k l = when (used p Channels k) _ (λ u. eq-eqb _ _ (C .one k u))
+
+  module _ (a : Area) (T : Tiled p a) (i : ℕ) (m : In i (blocks p a)) where
+    is-length : length-whole p i ≡ true
+    unfolding length-whole
+    is-length = let g = is-good p i (upto p a) (T .whole i m) in rw (eq-eqb _ _ (g .whole), le-leb _ _ (g .least))
+
+    is-tile : tiles p (upto p a) i ≡ true
+    unfolding tiles
+    is-tile = let g = is-good p i (upto p a) (T .whole i m) in le-leb _ _ (g .within)
+
+    is-start : start-zero p i ≡ true
+    unfolding start-zero
+    is-start = ⊎-elim (λ e. or-left (eqb (kind p i) job-kind) _ (eq-eqb _ _ e)) (λ e. or-right (eqb (kind p i) job-kind) _ (eq-eqb _ _ e)) (T .starts-zero i m)
+
+    is-free : free-blank p i ≡ true
+    unfolding free-blank
+    is-free = when (free p i) _ (λ e. let z = T .free-zero i m (eqb-true _ _ e) in rw (eq-eqb _ _ (z .0), eq-eqb _ _ (z .1)))
+
+    is-queue : queue-room p i ≡ true
+    unfolding queue-room
+    is-queue = when (eqb (kind p i) queue-kind) _ (λ e. let q = T .queue i m (eqb-true _ _ e) in rw (le-leb _ _ (q .least), le-leb _ _ (q .most), eq-eqb _ _ (q .long), lt-ltb _ _ (q .oldest), le-leb _ _ (q .held), eq-eqb _ _ (q .nought)))
+
+    is-lone : untouched p (upto p a) i ≡ true
+    unfolding untouched
+    is-lone = when (free p i) _ (λ e. ⊎-elim
+        (λ (l : next p i (upto p a) < upto p a). or-right (leb (upto p a) (next p i (upto p a))) _ (not-false-is _ (ne-eqb _ _ (T .lone i m (eqb-true _ _ e) l))))
+        (λ (l : upto p a ≤ next p i (upto p a)). or-left (leb (upto p a) (next p i (upto p a))) _ (le-leb _ _ l))
+        (lt-or-ge (next p i (upto p a)) (upto p a)))
+
+    is-held : holder-live p i ≡ true
+    unfolding holder-live
+    is-held = ⊎-elim
+        (λ e. or-left (free p i) _ (eq-eqb _ _ e))
+        (λ e. or-right (free p i) ((eqb (kind p i) job-kind && eqb (holder p i) nobody) || live p Jobs (holder p i)) (⊎-elim
+        (λ (f : (kind p i ≡ job-kind) × (holder p i ≡ nobody)). or-left (eqb (kind p i) job-kind && eqb (holder p i) nobody) _ (rw (eq-eqb _ _ (f .0), eq-eqb _ _ (f .1))))
+        (λ f. or-right (eqb (kind p i) job-kind && eqb (holder p i) nobody) _ f)
+        e))
+        (T .held i m)
+
+  known-by : (a : Area) (i : ℕ) → Fits a (kind p i) → kind-known p i ≡ true
+  unfolding kind-known
+  known-by Heap i f = le-leb (kind p i) 3 (omega arith)
+  known-by Transient i (inl e) = le-leb (kind p i) 3 (omega arith)
+  known-by Transient i (inr e) = le-leb (kind p i) 3 (omega arith)
+
+  fits-is : (a : Area) (i : ℕ) → Fits a (kind p i) → kind-fits p a i ≡ true
+  unfolding kind-fits
+  fits-is Heap i f = not-false-is _ (ne-eqb (kind p i) job-kind (λ e. omega arith))
+  fits-is Transient i (inl e) = or-left (free p i) _ (eq-eqb _ _ e)
+  fits-is Transient i (inr e) = or-right (free p i) _ (le-leb job-kind (kind p i) (omega arith))
+
+  -- a block outside the table's area is of another kind
+  elsewhere : (t : Table) (a : Area) (i : ℕ) → Fits a (kind p i) → (kind p i ≡ kind-of t → ⊥) ⊎ (a ≡ area-of t)
+  elsewhere Jobs Heap i f = inl (λ e. omega arith)
+  elsewhere Jobs Transient i f = inr refl
+  elsewhere Channels Heap i f = inr refl
+  elsewhere Channels Transient i (inl e) = inl (λ q. omega arith)
+  elsewhere Channels Transient i (inr e) = inl (λ q. omega arith)
+
+  claimed-by : (t : Table) (a : Area) → Matched p t → Tiled p a → (i : ℕ) → In i (blocks p a) → claimed p t i ≡ true
+  unfolding claimed
+  claimed-by t a M T i m = ⊎-elim
+      (λ (n : kind p i ≡ kind-of t → ⊥). rw (ne-eqb (kind p i) (kind-of t) n))
+      (λ (e : a ≡ area-of t). matched-claimed p t M i (subst (λ (b : Area). In i (blocks p b)) e m))
+      (elsewhere t a i (T .fits i m))
+
+-- a picture with all these facts is sound
+pub sound-again : (p : List ℕ) → Sound p → sound p ≡ true
+unfolding size-right zero-right heap-right last-within current-ready
+sound-again p S =
+    let z = S .sizes in
+    let J = S .jobs in
+    let C = S .channels in
+    let T = S .tiled in
+    let e = J .entries in
+    let f = C .entries in
+    sound-by p (
+      rw (eq-eqb _ _ (z .long), le-leb _ _ (z .least), le-leb _ _ (z .most), eq-eqb _ _ (z .fours)),
+      (
+        eq-eqb _ _ (z .nought),
+        (
+          rw (eq-eqb _ _ (z .heap-fours), le-leb _ _ (z .heap-least), le-leb (heap-base + word p heap-word + 4) (word p size-word) (rw (z .long) (z .heap-most))),
+          (
+            is-zero-base p J,
+            (
+              is-urgent p J,
+              (
+                is-gained p J,
+                (
+                  is-frames p J,
+                  (
+                    is-one p C,
+                    (
+                      is-blank p Jobs e,
+                      (
+                        is-blank p Channels f,
+                        (
+                          is-positioned p Jobs e,
+                          (
+                            is-positioned p Channels f,
+                            (
+                              is-zero-exists p J,
+                              (
+                                is-tagged p Jobs e,
+                                (
+                                  is-tagged p Channels f,
+                                  (
+                                    is-once p Jobs e,
+                                    (
+                                      is-once p Channels f,
+                                      (
+                                        (λ a. is-length p a (T a)),
+                                        (
+                                          (λ a i m. known-by p a i (T a .fits i m)),
+                                          (
+                                            (λ a. is-start p a (T a)),
+                                            (
+                                              (λ a. is-free p a (T a)),
+                                              (
+                                                (λ a. is-queue p a (T a)),
+                                                (
+                                                  (λ a. is-tile p a (T a)),
+                                                  (
+                                                    (λ a. is-lone p a (T a)),
+                                                    (
+                                                      (λ a i m. fits-is p a i (T a .fits i m)),
+                                                      (
+                                                        (λ a. claimed-by p Jobs a (S .matched Jobs) (T a)),
+                                                        (
+                                                          matched-housed p Jobs (S .matched Jobs),
+                                                          (
+                                                            (λ a. claimed-by p Channels a (S .matched Channels) (T a)),
+                                                            (
+                                                              matched-housed p Channels (S .matched Channels),
+                                                              (
+                                                                is-owned p Jobs e,
+                                                                (
+                                                                  is-owned p Channels f,
+                                                                  (
+                                                                    (λ a. is-held p a (T a)),
+                                                                    (
+                                                                      is-older p J,
+                                                                      (
+                                                                        is-zero-unowned p J,
+                                                                        (
+                                                                          is-given p Jobs e,
+                                                                          (
+                                                                            is-given p Channels f,
+                                                                            (
+                                                                              le-leb _ _ (z .last Jobs),
+                                                                              (
+                                                                                le-leb _ _ (z .last Channels),
+                                                                                (
+                                                                                  current-is (S .current),
+                                                                                  (is-waits p J, (is-idle p J, tt)),
+                                                                                ),
+                                                                              ),
+                                                                            ),
+                                                                          ),
+                                                                        ),
+                                                                      ),
+                                                                    ),
+                                                                  ),
+                                                                ),
+                                                              ),
+                                                            ),
+                                                          ),
+                                                        ),
+                                                      ),
+                                                    ),
+                                                  ),
+                                                ),
+                                              ),
+                                            ),
+                                          ),
+                                        ),
+                                      ),
+                                    ),
+                                  ),
+                                ),
+                              ),
+                            ),
+                          ),
+                        ),
+                      ),
+                    ),
+                  ),
+                ),
+              ),
+            ),
+          ),
+        ),
+      ),
+    )
+  where
+    current-is : Current p → eqb (word p current-word) nobody || (live p Jobs (word p current-word) && ready p (position (word p current-word))) ≡ true
+    current-is (inl e) = or-left (eqb (word p current-word) nobody) _ (eq-eqb _ _ e)
+    current-is (inr e) = or-right (eqb (word p current-word) nobody) (live p Jobs (word p current-word) && ready p (position (word p current-word))) (rw (e .0, e .1))

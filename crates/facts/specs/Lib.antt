@@ -1,0 +1,1 @@
+-- The facts of a sound picture stand in proofs/: this crate has laws only.

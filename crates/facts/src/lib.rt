@@ -1,0 +1,1 @@
+// What a sound picture gives, and what makes a picture sound: laws only.

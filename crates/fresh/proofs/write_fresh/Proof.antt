@@ -1,0 +1,117 @@
+use Rattle.fresh.proofs.Clear.{cleared-all}
+use Rattle.fresh.specs.Fresh.{fresh}
+use mathlib.Core.Path.{sym, _∙_}
+use borrow.Author.Needs.{needs}
+use Rattle.fresh.proofs.write_fresh.Statement.{statement}
+use Rattle.fresh.proofs.write_fresh.Tie as tie
+use Rattle.fresh.proofs.write_fresh.Reads as reads
+use Rattle.fresh.proofs.write_fresh.Lts as lts
+use Rattle.picture.proofs.mask_of.Reads as mask-of-reads
+use Rattle.words.proofs.clear.Reads as clear-reads
+use Rattle.words.proofs.put.Reads as put-reads
+
+-- src/lib.rt:18:21
+add-transient : tie.Need-add-transient
+add-transient c = search needs
+
+-- src/lib.rt:19:5
+clear-requires : tie.Need-clear-requires
+clear-requires c κs = search needs
+
+-- src/lib.rt:20:5
+put-requires : tie.Need-put-requires
+put-requires c κs = search needs
+
+-- src/lib.rt:21:5
+put-requires-2 : tie.Need-put-requires-2
+put-requires-2 c κs = search needs
+
+-- src/lib.rt:22:12
+mask-of-requires : tie.Need-mask-of-requires
+mask-of-requires c κs = search needs
+
+-- src/lib.rt:22:5
+put-requires-3 : tie.Need-put-requires-3
+put-requires-3 c κs = search needs
+
+-- src/lib.rt:23:12
+add-put : tie.Need-add-put
+add-put c = search needs
+
+-- src/lib.rt:23:5
+put-requires-4 : tie.Need-put-requires-4
+put-requires-4 c κs = search needs
+
+-- src/lib.rt:24:12
+add-put-2 : tie.Need-add-put-2
+add-put-2 c = search needs
+
+-- src/lib.rt:24:5
+put-requires-5 : tie.Need-put-requires-5
+put-requires-5 c κs = search needs
+
+-- src/lib.rt:25:32
+mul-put : tie.Need-mul-put
+mul-put c = search needs
+
+-- src/lib.rt:25:5
+put-requires-6 : tie.Need-put-requires-6
+put-requires-6 c κs = search needs
+
+-- src/lib.rt:26:28
+cast-put : tie.Need-cast-put
+cast-put c = search needs
+
+-- src/lib.rt:26:24
+sub-put : tie.Need-sub-put
+sub-put c = search needs
+
+-- src/lib.rt:26:23
+mul-put-2 : tie.Need-mul-put-2
+mul-put-2 c = search needs
+
+-- src/lib.rt:26:5
+put-requires-7 : tie.Need-put-requires-7
+put-requires-7 c κs = search needs
+
+-- src/lib.rt:14:1
+same-length : tie.Need-same-length
+same-length c = search needs
+
+-- src/lib.rt:14:1
+returns : tie.Need-returns
+unfolding fresh
+returns c =
+    let g = c .before .before in
+    let f = g .before .before .before .before in
+    let e = f .before .before .before .before in
+    let d = e .before .before .before .before in
+    let b = d .before .before .before .before in
+    let a = b .before .before .before .before .before in
+    let z = a .before .before .before .before in
+    let y = z .before .before .before .before in
+    let s = y .before .before .before in
+    rw (g .put7 .ensures, f .put6 .ensures, e .put5 .ensures, d .put4 .ensures, b .put3 .ensures, a .put2 .ensures, z .put .ensures, y .clear .ensures, b .before .mask-of .ensures, cleared-all (s .args .p .now) (s .args .n) (s .pre .0))
+
+pub write-fresh-spec : {M : Type 1} → statement M
+write-fresh-spec =
+    tie.close
+    (tie.spec
+    add-transient
+    clear-requires
+    put-requires
+    put-requires-2
+    mask-of-requires
+    put-requires-3
+    add-put
+    put-requires-4
+    add-put-2
+    put-requires-5
+    mul-put
+    put-requires-6
+    cast-put
+    sub-put
+    mul-put-2
+    put-requires-7
+    same-length
+    returns)

@@ -1,0 +1,46 @@
+use Rattle.picture.proofs.Records.{used-past, used-is}
+use mathlib.Core.Path.{sym, _∙_}
+use borrow.Author.Needs.{needs}
+use Rattle.picture.proofs.is_used.Statement.{statement}
+use Rattle.picture.proofs.is_used.Tie as tie
+use Rattle.picture.proofs.is_used.Reads as reads
+use Rattle.picture.proofs.is_used.Lts as lts
+use Rattle.picture.proofs.mask_of.Reads as mask-of-reads
+use Rattle.picture.proofs.positions_of.Reads as positions-of-reads
+use Rattle.words.proofs.is_set.Reads as is-set-reads
+use Rattle.words.proofs.word.Reads as word-reads
+
+-- src/lib.rt:149:8
+positions-of-requires : tie.Need-positions-of-requires
+positions-of-requires c κs = search needs
+
+-- src/lib.rt:150:9
+returns : tie.Need-returns
+returns c = sym (used-past _ _ _ (rw (c .before .positions-of .ensures .0) at (c .if1 .taken)))
+
+-- src/lib.rt:152:27
+mask-of-requires : tie.Need-mask-of-requires
+mask-of-requires c κs = search needs
+
+-- src/lib.rt:152:19
+word-requires : tie.Need-word-requires
+word-requires c κs = search needs
+
+-- src/lib.rt:152:5
+is-set-requires : tie.Need-is-set-requires
+is-set-requires c κs = search needs
+
+-- src/lib.rt:146:1
+returns-2 : tie.Need-returns-2
+returns-2 c = let d = c .before .before .before in rw (used-is _ _ _ (rw (d .before .positions-of .ensures .0) at (d .if1 .left)), c .is-set .ensures, c .before .word .ensures, c .before .before .mask-of .ensures)
+
+pub is-used-spec : {M : Type 1} → statement M
+is-used-spec =
+    tie.close
+    (tie.spec
+    positions-of-requires
+    returns
+    mask-of-requires
+    word-requires
+    is-set-requires
+    returns-2)

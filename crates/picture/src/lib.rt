@@ -1,0 +1,265 @@
+// The memory picture: where things stand in it, records, and numbers that name a job or a channel.
+use words::word;
+ghost use mathlib.Core.Path.{_≡_};
+ghost use Prim.Native.Nat.{_+_, _*_, _/_, _%_, _<_, _≤_};
+ghost use Rattle.words.specs.Words.{word};
+ghost use Rattle.picture.specs.Layout.{positions, width, from, upto, last-word as lastWord, mask-word as maskWord, heap-base as heapBase};
+ghost use Rattle.picture.specs.Records.{slot, field, used, ready, active};
+ghost use Rattle.picture.specs.Numbers.{live, job-at as jobAt, channel-at as channelAt, free-position as freePosition, number-of as numberOf};
+
+// $FFFFFFFF: nobody, or timeout -1.
+pub const NOBODY: u32 = 0xFFFF_FFFF;
+
+// The longwords before the tables, and where the tables and the heap start.
+pub const SIZE_WORD: usize = 0;
+
+pub const CURRENT_WORD: usize = 1;
+
+pub const HEAP_WORD: usize = 4;
+
+pub const ZERO_WORD: usize = 7;
+
+pub const FIRST_JOB: usize = 8;
+
+pub const FIRST_CHANNEL: usize = 264;
+
+pub const HEAP_BASE: usize = 392;
+
+// N lies between these.
+pub const LEAST_SIZE: usize = 1024;
+
+pub const GREATEST_SIZE: usize = 16384;
+
+// How many positions a table has, and how many longwords a record.
+pub const JOBS: usize = 32;
+
+pub const CHANNELS: usize = 32;
+
+pub const JOB_WIDTH: usize = 8;
+
+pub const CHANNEL_WIDTH: usize = 4;
+
+// Tags run to this one.
+pub const GREATEST_TAG: u32 = 32767;
+
+// The fields of a record; the first three are those of a channel too, whose last is ENDING.
+pub const NUMBER: usize = 0;
+
+pub const OWNER: usize = 1;
+
+pub const BASE: usize = 2;
+
+pub const PRIORITY: usize = 3;
+
+pub const ACCUMULATED: usize = 4;
+
+pub const TIMEOUT: usize = 5;
+
+pub const WAITED_FOR: usize = 6;
+
+pub const DELIVERED: usize = 7;
+
+pub const ENDING: usize = 3;
+
+// The keys.
+pub const DONE: i32 = 0;
+
+pub const NOT_COMPLETE: i32 = -1;
+
+pub const INVALID_JOB: i32 = -2;
+
+pub const OUT_OF_MEMORY: i32 = -3;
+
+pub const OUT_OF_RANGE: i32 = -4;
+
+pub const CHANNEL_NOT_OPEN: i32 = -6;
+
+pub const NOT_FOUND: i32 = -7;
+
+pub const BAD_NAME: i32 = -12;
+
+pub const BAD_PARAMETER: i32 = -15;
+
+pub const NOT_SOUND: i32 = -16;
+
+// The two tables of records.
+pub enum Table {
+    Jobs,
+    Channels,
+}
+
+// The two areas of blocks.
+pub enum Area {
+    Heap,
+    Transient,
+}
+
+// A job's number and a channel's number are different kinds: one never stands for the other.
+pub struct JobNumber(pub u32);
+
+pub struct ChannelNumber(pub u32);
+
+// The position of the job that a number names.
+pub enum JobFound {
+    At(usize),
+    Dead,
+}
+
+// The position of the channel that a number names.
+pub enum ChannelFound {
+    At(usize),
+    Dead,
+}
+
+// How many positions the table has.
+pub fn positions_of(t: Table) -> usize
+    ensures { λ r. ⌜ (r ≡ positions t) × (r ≤ 32) ⌝ }
+{
+    match t {
+        Table::Jobs => JOBS,
+        Table::Channels => CHANNELS,
+    }
+}
+
+// How many longwords a record of the table has.
+pub fn width_of(t: Table) -> usize
+    ensures { λ r. ⌜ (r ≡ width t) × (r ≤ 8) ⌝ }
+{
+    match t {
+        Table::Jobs => JOB_WIDTH,
+        Table::Channels => CHANNEL_WIDTH,
+    }
+}
+
+// The longword that holds the last tag given.
+pub fn last_of(t: Table) -> usize
+    ensures { λ r. ⌜ r ≡ lastWord t ⌝ }
+{
+    match t {
+        Table::Jobs => 2,
+        Table::Channels => 3,
+    }
+}
+
+// The longword that holds the table's mask.
+pub fn mask_of(t: Table) -> usize
+    ensures { λ r. ⌜ r ≡ maskWord t ⌝ }
+{
+    match t {
+        Table::Jobs => 5,
+        Table::Channels => 6,
+    }
+}
+
+// Where the record of position k starts.
+pub fn slot_of(t: Table, k: usize) -> usize
+    requires { ⌜ k < positions t ⌝ }
+    ensures { λ r. ⌜ (r ≡ slot t k) × (r + width t ≤ heapBase) ⌝ }
+{
+    match t {
+        Table::Jobs => FIRST_JOB + JOB_WIDTH * k,
+        Table::Channels => FIRST_CHANNEL + CHANNEL_WIDTH * k,
+    }
+}
+
+// Field f of the record of position k.
+pub fn field_of(p: &[u32], t: Table, k: usize, f: usize) -> u32
+    requires { ⌜ (k < positions t) × (f < 8) ⌝ }
+    ensures { λ r. ⌜ r ≡ field (now (p .entry)) t k f ⌝ }
+{
+    word(p, slot_of(t, k) + f)
+}
+
+// Position k is in use.
+pub fn is_used(p: &[u32], t: Table, k: usize) -> bool
+    ensures { λ r. ⌜ r ≡ used (now (p .entry)) t k ⌝ }
+{
+    if positions_of(t) <= k {
+        return false;
+    }
+    words::is_set(word(p, mask_of(t)), k)
+}
+
+// The job at position k is ready.
+pub fn is_ready(p: &[u32], k: usize) -> bool
+    requires { ⌜ k < 32 ⌝ }
+    ensures { λ r. ⌜ r ≡ ready (now (p .entry)) k ⌝ }
+{
+    (1 <= field_of(p, Table::Jobs, k, PRIORITY)) & (field_of(p, Table::Jobs, k, TIMEOUT) == 0)
+}
+
+// The job at position k is active.
+pub fn is_active(p: &[u32], k: usize) -> bool
+    requires { ⌜ k < 32 ⌝ }
+    ensures { λ r. ⌜ r ≡ active (now (p .entry)) k ⌝ }
+{
+    1 <= field_of(p, Table::Jobs, k, PRIORITY)
+}
+
+// The number of the entry with this tag at this position.
+pub fn number_of(tag: u32, position: usize) -> u32
+    requires { ⌜ (tag ≤ 32767) × (position < 32) ⌝ }
+    ensures { λ r. ⌜ r ≡ numberOf tag position ⌝ }
+{
+    tag * 65536 + position as u32
+}
+
+// The number n names a live entry of the table.
+pub fn is_live(p: &[u32], t: Table, n: u32) -> bool
+    ensures { λ r. ⌜ r ≡ live (now (p .entry)) t n ⌝ }
+{
+    let k = (n % 65536) as usize;
+    if !is_used(p, t, k) {
+        return false;
+    }
+    field_of(p, t, k, NUMBER) == n
+}
+
+// The position of the job that the number names.
+pub fn job_at(p: &[u32], n: JobNumber) -> JobFound
+    ensures { λ r. ⌜ r ≡ jobAt (now (p .entry)) (n .0) ⌝ }
+{
+    let number = n.0;
+    if is_live(p, Table::Jobs, number) {
+        return JobFound::At((number % 65536) as usize);
+    }
+    JobFound::Dead
+}
+
+// The position of the channel that the number names.
+pub fn channel_at(p: &[u32], n: ChannelNumber) -> ChannelFound
+    ensures { λ r. ⌜ r ≡ channelAt (now (p .entry)) (n .0) ⌝ }
+{
+    let number = n.0;
+    if is_live(p, Table::Channels, number) {
+        return ChannelFound::At((number % 65536) as usize);
+    }
+    ChannelFound::Dead
+}
+
+// The lowest position that is free, or the number of positions for none.
+pub fn free_position(p: &[u32], t: Table) -> usize
+    ensures { λ r. ⌜ (r ≡ freePosition (now (p .entry)) t) × (r ≤ 32) ⌝ }
+{
+    words::lowest_clear(word(p, mask_of(t)))
+}
+
+// Where an area starts.
+pub fn area_from(p: &[u32], a: Area) -> usize
+    ensures { λ r. ⌜ (r ≡ from (now (p .entry)) a) × (r < 8589934592) ⌝ }
+{
+    match a {
+        Area::Heap => HEAP_BASE,
+        Area::Transient => HEAP_BASE + word(p, HEAP_WORD) as usize,
+    }
+}
+
+// Where an area stops.
+pub fn area_upto(p: &[u32], a: Area) -> usize
+    ensures { λ r. ⌜ (r ≡ upto (now (p .entry)) a) × (r < 8589934592) ⌝ }
+{
+    match a {
+        Area::Heap => HEAP_BASE + word(p, HEAP_WORD) as usize,
+        Area::Transient => word(p, SIZE_WORD) as usize,
+    }
+}

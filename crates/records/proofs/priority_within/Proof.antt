@@ -1,0 +1,19 @@
+use Rattle.records.specs.Rules.{priority-within}
+use borrow.Author.Needs.{needs}
+use Rattle.records.proofs.priority_within.Statement.{statement}
+use Rattle.records.proofs.priority_within.Tie as tie
+use Rattle.records.proofs.priority_within.Reads as reads
+use Rattle.records.proofs.priority_within.Lts as lts
+use Rattle.picture.proofs.field_of.Reads as field-of-reads
+
+-- src/lib.rt:41:5
+field-of-requires : tie.Need-field-of-requires
+field-of-requires c κs = search needs
+
+-- src/lib.rt:37:1
+returns : tie.Need-returns
+unfolding priority-within
+returns c = rw (c .field-of .ensures)
+
+pub priority-within-spec : {M : Type 1} → statement M
+priority-within-spec = tie.close (tie.spec field-of-requires returns)

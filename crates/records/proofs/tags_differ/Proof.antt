@@ -1,0 +1,28 @@
+use Rattle.records.specs.Rules.{tags-differ}
+use borrow.Author.Needs.{needs}
+use Rattle.records.proofs.tags_differ.Statement.{statement}
+use Rattle.records.proofs.tags_differ.Tie as tie
+use Rattle.records.proofs.tags_differ.Reads as reads
+use Rattle.records.proofs.tags_differ.Lts as lts
+use Rattle.picture.proofs.is_used.Reads as is-used-reads
+use Rattle.records.proofs.tag_at.Reads as tag-at-reads
+
+-- src/lib.rt:127:6
+is-used-requires : tie.Need-is-used-requires
+is-used-requires c κs = search needs
+
+-- src/lib.rt:127:26
+tag-at-requires : tie.Need-tag-at-requires
+tag-at-requires c κs = search needs
+
+-- src/lib.rt:127:45
+tag-at-requires-2 : tie.Need-tag-at-requires-2
+tag-at-requires-2 c κs = search needs
+
+-- src/lib.rt:123:1
+returns : tie.Need-returns
+unfolding tags-differ
+returns c = rw (c .tag-at2 .ensures, c .before .tag-at .ensures, c .before .before .is-used .ensures)
+
+pub tags-differ-spec : {M : Type 1} → statement M
+tags-differ-spec = tie.close (tie.spec is-used-requires tag-at-requires tag-at-requires-2 returns)

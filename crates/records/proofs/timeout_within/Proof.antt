@@ -1,0 +1,19 @@
+use Rattle.records.specs.Rules.{timeout-within}
+use borrow.Author.Needs.{needs}
+use Rattle.records.proofs.timeout_within.Statement.{statement}
+use Rattle.records.proofs.timeout_within.Tie as tie
+use Rattle.records.proofs.timeout_within.Reads as reads
+use Rattle.records.proofs.timeout_within.Lts as lts
+use Rattle.picture.proofs.field_of.Reads as field-of-reads
+
+-- src/lib.rt:57:9
+field-of-requires : tie.Need-field-of-requires
+field-of-requires c κs = search needs
+
+-- src/lib.rt:53:1
+returns : tie.Need-returns
+unfolding timeout-within
+returns c = rw (c .field-of .ensures)
+
+pub timeout-within-spec : {M : Type 1} → statement M
+timeout-within-spec = tie.close (tie.spec field-of-requires returns)

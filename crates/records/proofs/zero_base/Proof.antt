@@ -1,0 +1,19 @@
+use Rattle.records.specs.Rules.{zero-base}
+use borrow.Author.Needs.{needs}
+use Rattle.records.proofs.zero_base.Statement.{statement}
+use Rattle.records.proofs.zero_base.Tie as tie
+use Rattle.records.proofs.zero_base.Reads as reads
+use Rattle.records.proofs.zero_base.Lts as lts
+use Rattle.picture.proofs.field_of.Reads as field-of-reads
+
+-- src/lib.rt:33:17
+field-of-requires : tie.Need-field-of-requires
+field-of-requires c κs = search needs
+
+-- src/lib.rt:29:1
+returns : tie.Need-returns
+unfolding zero-base
+returns c = rw (c .field-of .ensures)
+
+pub zero-base-spec : {M : Type 1} → statement M
+zero-base-spec = tie.close (tie.spec field-of-requires returns)

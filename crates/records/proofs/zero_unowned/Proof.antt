@@ -1,0 +1,19 @@
+use Rattle.records.specs.Rules.{zero-unowned}
+use borrow.Author.Needs.{needs}
+use Rattle.records.proofs.zero_unowned.Statement.{statement}
+use Rattle.records.proofs.zero_unowned.Tie as tie
+use Rattle.records.proofs.zero_unowned.Reads as reads
+use Rattle.records.proofs.zero_unowned.Lts as lts
+use Rattle.picture.proofs.field_of.Reads as field-of-reads
+
+-- src/lib.rt:191:17
+field-of-requires : tie.Need-field-of-requires
+field-of-requires c κs = search needs
+
+-- src/lib.rt:187:1
+returns : tie.Need-returns
+unfolding zero-unowned
+returns c = rw (c .field-of .ensures)
+
+pub zero-unowned-spec : {M : Type 1} → statement M
+zero-unowned-spec = tie.close (tie.spec field-of-requires returns)

@@ -1,0 +1,61 @@
+use Rattle.picture.proofs.Numbers.{live-is}
+use Rattle.picture.proofs.Records.{used-below}
+use Rattle.sound.specs.Whole.{current-ready}
+use borrow.Author.Tests.{not-true, not-false, eq-eqb, ne-eqb}
+use mathlib.Core.Path.{sym, _∙_}
+use borrow.Author.Needs.{needs}
+use Rattle.sound.proofs.current_ready.Statement.{statement}
+use Rattle.sound.proofs.current_ready.Tie as tie
+use Rattle.sound.proofs.current_ready.Reads as reads
+use Rattle.sound.proofs.current_ready.Lts as lts
+use Rattle.picture.proofs.is_live.Reads as is-live-reads
+use Rattle.picture.proofs.is_ready.Reads as is-ready-reads
+use Rattle.words.proofs.word.Reads as word-reads
+
+-- src/lib.rt:66:9
+word-requires : tie.Need-word-requires
+word-requires c κs = search needs
+
+-- src/lib.rt:68:9
+returns : tie.Need-returns
+unfolding current-ready
+returns c = rw (eq-eqb _ _ (rw (c .before .word .ensures) at (c .if1 .taken)))
+
+-- src/lib.rt:70:9
+is-live-requires : tie.Need-is-live-requires
+is-live-requires c κs = search needs
+
+-- src/lib.rt:71:9
+returns-2 : tie.Need-returns-2
+unfolding current-ready
+returns-2 c =
+    let w = c .before .before .before in
+    rw (ne-eqb _ _ (rw (w .word .ensures) at (c .before .before .if1 .left)), rw (w .word .ensures) at (sym (c .before .is-live .ensures) ∙ not-true _ (c .if2 .taken)))
+
+-- src/lib.rt:73:26
+cast-is-ready : tie.Need-cast-is-ready
+cast-is-ready c = search needs
+
+-- src/lib.rt:73:5
+is-ready-requires : tie.Need-is-ready-requires
+is-ready-requires c κs = used-below _ _ _ (live-is _ _ _ (sym (c .before .is-live .ensures) ∙ not-false _ (c .if2 .left)) .used)
+
+-- src/lib.rt:63:1
+returns-3 : tie.Need-returns-3
+unfolding current-ready
+returns-3 c =
+    let d = c .before in
+    let w = d .before .before .before in
+    rw (ne-eqb _ _ (rw (w .word .ensures) at (d .before .before .if1 .left)), rw (w .word .ensures) at (sym (d .before .is-live .ensures) ∙ not-false _ (d .if2 .left)), c .is-ready .ensures, w .word .ensures)
+
+pub current-ready-spec : {M : Type 1} → statement M
+current-ready-spec =
+    tie.close
+    (tie.spec
+    word-requires
+    returns
+    is-live-requires
+    returns-2
+    cast-is-ready
+    is-ready-requires
+    returns-3)

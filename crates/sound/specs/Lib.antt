@@ -1,0 +1,4 @@
+-- The definitions that the contracts cite.
+pub mod Whole
+pub mod Sound
+pub mod Test

@@ -1,0 +1,51 @@
+-- Tests that are true or false, taken apart, and two cases of numbers.
+use Prim.Native.Nat.{ℕ, _≤_, _<_}
+use mathlib.Core.Path.{_≡_, refl, sym, subst}
+use mathlib.Core.Bool.{Bool, true, false, _&&_, _||_, not}
+use mathlib.Core.Logic.{_⊎_, inl, inr}
+use lib.Dec.{T, ltb}
+use borrow.Author.Tests.{ltb-true, ltb-false}
+
+pub lt-or-ge : (a b : ℕ) → (a < b) ⊎ (b ≤ a)
+lt-or-ge a b = go (ltb a b) refl
+  where
+    go : (t : Bool) → ltb a b ≡ t → (a < b) ⊎ (b ≤ a)
+    go true h = inl (ltb-true a b h)
+    go false h = inr (ltb-false a b h)
+
+pub false-true : false ≡ true → ⊥
+false-true h = subst T (sym h) tt
+
+-- both halves of an `and`
+pub both : (a b : Bool) → a && b ≡ true → (a ≡ true) × (b ≡ true)
+both true b h = (refl, h)
+both false b h = absurd (false-true h)
+
+-- one half of an `or`
+pub either : (a b : Bool) → a || b ≡ true → (a ≡ true) ⊎ (b ≡ true)
+either true b h = inl refl
+either false b h = inr h
+
+-- the second half of an `or` whose first fails
+pub failing : (a b : Bool) → a || b ≡ true → a ≡ false → b ≡ true
+failing true b h e = absurd (false-true (sym e))
+failing false b h e = h
+
+-- `not a or b`, and a
+pub unless : (a b : Bool) → not a || b ≡ true → a ≡ true → b ≡ true
+unless true b h e = h
+unless false b h e = absurd (false-true e)
+
+-- two tests that pass together are equal
+pub same-test : (a b : Bool) → (a ≡ true → b ≡ true) → (b ≡ true → a ≡ true) → a ≡ b
+same-test true b f g = sym (f refl)
+same-test false true f g = g refl
+same-test false false f g = refl
+
+-- an `and` with a failing half
+pub fails-left : (a b : Bool) → a ≡ false → a && b ≡ false
+fails-left a b h = rw h
+
+pub fails-right : (a b : Bool) → b ≡ false → a && b ≡ false
+fails-right true b h = h
+fails-right false b h = refl

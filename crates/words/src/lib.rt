@@ -1,0 +1,75 @@
+// Longwords of a lent slice, the bits of a mask, and signed numbers in registers.
+ghost use mathlib.Core.Path.{_≡_};
+ghost use Prim.Native.Nat.{_-_, _%_, _<_, _≤_};
+ghost use mir.Syntax.{w16, w32};
+ghost use mir.Val.{toZ, ofZ};
+ghost use Rattle.words.specs.Words.{word, put, clear};
+ghost use Rattle.words.specs.Bits.{bit, lowest-clear as lowestClear};
+
+// The longword at i, 0 past the end.
+pub fn word(p: &[u32], i: usize) -> u32
+    ensures { λ r. ⌜ r ≡ word (now (p .entry)) i ⌝ }
+{
+    if i < p.len() {
+        return p[i];
+    }
+    0
+}
+
+// Stores v at i; nothing past the end.
+pub fn put(p: &mut [u32], i: usize, v: u32)
+    ensures { λ _. ⌜ now (p .exit) ≡ put (now (p .entry)) i v ⌝ }
+{
+    if i < p.len() {
+        p[i] = v;
+    }
+}
+
+// Clears the longwords from `from` up to `upto`.
+pub fn clear(p: &mut [u32], from: usize, upto: usize)
+    ensures { λ _. ⌜ now (p .exit) ≡ clear (upto - from) (now (p .entry)) from ⌝ }
+{
+    let mut i = from;
+    while i < upto {
+        put(p, i, 0);
+        i += 1;
+    }
+}
+
+// Bit k of a mask is set.
+pub fn is_set(mask: u32, k: usize) -> bool
+    requires { ⌜ k < 32 ⌝ }
+    ensures { λ r. ⌜ r ≡ bit mask k ⌝ }
+{
+    (mask >> k) % 2 == 1
+}
+
+// The lowest clear bit of a mask, 32 where all are set.
+pub fn lowest_clear(mask: u32) -> usize
+    ensures { λ r. ⌜ (r ≡ lowestClear 32 mask) × (r ≤ 32) ⌝ }
+{
+    u32::trailing_zeros(!mask) as usize
+}
+
+// The low word of a register, read as signed.
+pub fn low_half(register: u32) -> i32
+    ensures { λ r. ⌜ r ≡ toZ w16 (register % 65536) ⌝ }
+{
+    let half = register % 65536;
+    if half < 32768 {
+        half as i32
+    } else {
+        !((65535 - half) as i32)
+    }
+}
+
+// The 32 bits by which a key stands in a register.
+pub fn bits_of(key: i32) -> u32
+    ensures { λ r. ⌜ r ≡ ofZ w32 key ⌝ }
+{
+    if key >= 0 {
+        key as u32
+    } else {
+        !((!key) as u32)
+    }
+}

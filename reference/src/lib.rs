@@ -1,0 +1,28 @@
+//! The manager of document 01 in ordinary Rust: jobs, heap, channels, queues and turns over a lent picture.
+//!
+//! Written from the paper alone. It is the second reading that another version is compared with, and the
+//! baseline for its speed.
+
+pub mod picture;
+pub mod registers;
+pub mod keys;
+pub mod sound;
+pub mod fresh;
+pub mod blocks;
+pub mod jobs;
+pub mod channels;
+pub mod turns;
+pub mod errors;
+pub mod manager;
+
+pub mod hexadecimal;
+pub mod lines;
+pub mod session;
+pub mod trial;
+
+#[cfg(test)]
+mod desk;
+#[cfg(test)]
+mod histories;
+pub mod random;
+pub mod make;

@@ -1,0 +1,163 @@
+//! Sessions: lines that mostly make sense one after another, kept so by running the manager beside them.
+
+use super::world::{Act, Mix, Step, World, LIVELY};
+use crate::hexadecimal::{write_byte, write_longword};
+use crate::random::Random;
+use crate::session;
+
+/// The kinds of sessions.
+#[derive(Clone, Copy, PartialEq, Eq, Debug)]
+pub enum SessionKind {
+    Heap,
+    Tree,
+    Queue,
+    Turns,
+    Mixed,
+    Garbage,
+}
+
+impl SessionKind {
+    pub const ALL: [SessionKind; 6] = [
+        SessionKind::Heap,
+        SessionKind::Tree,
+        SessionKind::Queue,
+        SessionKind::Turns,
+        SessionKind::Mixed,
+        SessionKind::Garbage,
+    ];
+
+    pub fn name(self) -> &'static str {
+        match self {
+            SessionKind::Heap => "session-heap",
+            SessionKind::Tree => "session-tree",
+            SessionKind::Queue => "session-queue",
+            SessionKind::Turns => "session-turns",
+            SessionKind::Mixed => "session-mixed",
+            SessionKind::Garbage => "session-garbage",
+        }
+    }
+
+    /// How many lines are made where no count is given.
+    pub const DEFAULT_COUNT: usize = 100_000;
+
+    fn mix(self) -> &'static Mix {
+        match self {
+            SessionKind::Heap => &[
+                (Act::Take, 40),
+                (Act::Free, 34),
+                (Act::Open, 6),
+                (Act::Close, 6),
+                (Act::AskFree, 3),
+                (Act::Create, 2),
+                (Act::EndForced, 1),
+            ],
+            SessionKind::Tree => &[
+                (Act::Create, 20),
+                (Act::Activate, 16),
+                (Act::Ask, 14),
+                (Act::EndForced, 4),
+                (Act::EndInactive, 3),
+                (Act::Take, 4),
+                (Act::Open, 3),
+                (Act::Suspend, 4),
+                (Act::Release, 4),
+                (Act::SetPriority, 4),
+                (Act::AskSystem, 1),
+                (Act::Pick, 10),
+                (Act::Tick, 2),
+            ],
+            SessionKind::Queue => &[
+                (Act::Open, 5),
+                (Act::Close, 3),
+                (Act::Send, 40),
+                (Act::Fetch, 34),
+                (Act::Pending, 10),
+                (Act::Take, 2),
+                (Act::Free, 2),
+            ],
+            SessionKind::Turns => &[
+                (Act::Pick, 60),
+                (Act::Tick, 14),
+                (Act::Create, 4),
+                (Act::Activate, 6),
+                (Act::SetPriority, 3),
+                (Act::Suspend, 4),
+                (Act::Release, 2),
+                (Act::EndForced, 1),
+            ],
+            SessionKind::Mixed | SessionKind::Garbage => LIVELY,
+        }
+    }
+}
+
+pub fn make(kind: SessionKind, random: &mut Random, count: usize, take: &mut dyn FnMut(&[u8])) {
+    let mut world = World { picture: session::fresh_picture().to_vec() };
+    let mut line = Vec::new();
+    for _ in 0..count {
+        let step = world.step(random, kind.mix());
+        line.clear();
+        write_step(&step, &mut line);
+        if random.once_in(6) {
+            line.make_ascii_lowercase();
+        }
+        if kind == SessionKind::Garbage && !random.once_in(4) {
+            spoil(random, &mut line);
+        }
+        take(&line);
+        // The session itself says what came of the line, spoilt or not.
+        session::answer_line(Some(&line), &mut world.picture, &mut Vec::new());
+    }
+}
+
+fn write_step(step: &Step, line: &mut Vec<u8>) {
+    match step {
+        Step::Trap { trap, registers, name } => {
+            write_byte(*trap as u8, line);
+            registers.iter().for_each(|&register| write_longword(register, line));
+            name.iter().for_each(|&byte| write_byte(byte, line));
+        }
+        Step::Pick => line.extend(b"F0"),
+        Step::Tick => line.extend(b"F1"),
+    }
+}
+
+/// Makes a line bad in some way, or strange but good. A line never gains a line feed.
+fn spoil(random: &mut Random, line: &mut Vec<u8>) {
+    match random.below(12) {
+        0 => line.clear(),
+        1 => line.truncate(random.below(line.len() + 1)),
+        2 => line.push(random.one_of(b"0aF \r-g")),
+        3 => line.extend(b"00"),
+        4 => {
+            if let Some(place) = (!line.is_empty()).then(|| random.below(line.len())) {
+                line[place] = random.one_of(b"gGxX -+\r\0\x7F\xFF:@`/");
+            }
+        }
+        5 => {
+            let length = random.one_of(&[510, 511, 512, 513, 514, 600, 2_000, 70_000]);
+            line.resize(if random.once_in(4) { length } else { length.min(514) }, b'4');
+        }
+        6 => *line = (0..random.below(90)).map(|_| random.next() as u8).filter(|&byte| byte != b'\n').collect(),
+        7 => line.iter_mut().for_each(|digit| *digit = random.one_of(b"0123456789abcdefABCDEF")),
+        8 => {
+            line.clear();
+            write_byte(random.next() as u8, line);
+            for _ in 0..8 {
+                write_longword(random.next() >> random.below(32), line);
+            }
+        }
+        9 => {
+            let trap = random.one_of(b"012345FfE");
+            if let [_, second, ..] = line.as_mut_slice() {
+                *second = trap;
+            }
+        }
+        10 => line.insert(0, random.one_of(b"0 Ff")),
+        _ => {
+            line.resize(66, b'0');
+            for _ in 0..random.below(224) {
+                write_byte(random.next() as u8, line);
+            }
+        }
+    }
+}
