@@ -24,7 +24,7 @@ pub fn queue_length(name: &[u8]) -> Result<u32, Key> {
         return Err(BAD_NAME);
     }
     let n = digits.iter().fold(0, |n, digit| 10 * n + u32::from(digit - b'0'));
-    if n < 1 || n > queue::LONGEST {
+    if !(1..=queue::LONGEST).contains(&n) {
         return Err(BAD_NAME);
     }
     Ok(n)
@@ -127,18 +127,29 @@ mod tests {
 
     #[test]
     fn names_are_pipe_and_one_to_five_digits() {
-        for (name, n) in [
-            (&b"PIPE_1"[..], 1),
-            (b"pipe_32766", 32_766),
-            (b"PiPe_00001", 1),
-            (b"pIPE_007", 7),
-            (b"PIPE_10", 10),
-        ] {
+        for (name, n) in
+            [(&b"PIPE_1"[..], 1), (b"pipe_32766", 32_766), (b"PiPe_00001", 1), (b"pIPE_007", 7), (b"PIPE_10", 10)]
+        {
             assert_eq!(queue_length(name), Ok(n));
         }
         let bad: &[&[u8]] = &[
-            b"PIPE_", b"PIPE_0", b"PIPE_00000", b"PIPE_000001", b"PIPE_32767", b"PIPE_99999", b"PIPE_65537", b"PIPE_123456",
-            b"PIPE_1a", b"PIPE_a", b"PIPE_-1", b"PIPE_+1", b"PIPE_ 1", b"PIPE_1 ", b"PIPE__1", b"PIPE_1\0", b"PIPE_\xB1",
+            b"PIPE_",
+            b"PIPE_0",
+            b"PIPE_00000",
+            b"PIPE_000001",
+            b"PIPE_32767",
+            b"PIPE_99999",
+            b"PIPE_65537",
+            b"PIPE_123456",
+            b"PIPE_1a",
+            b"PIPE_a",
+            b"PIPE_-1",
+            b"PIPE_+1",
+            b"PIPE_ 1",
+            b"PIPE_1 ",
+            b"PIPE__1",
+            b"PIPE_1\0",
+            b"PIPE_\xB1",
         ];
         for name in bad {
             assert_eq!(queue_length(name), Err(BAD_NAME), "{name:?}");
@@ -147,8 +158,21 @@ mod tests {
             assert_eq!(queue_length(name), Err(BAD_PARAMETER));
         }
         let unknown: &[&[u8]] = &[
-            b"", b"P", b"PIP", b"SER1", b"PIPX_1", b"XIPE_1", b"PIPE1", b"PIPE 1", b"PIPES_1", b"PIPE\x7F1", b" PIPE_1",
-            b"\xD0IPE_1", b"0IPE_1", b"PIPE-1", b"PIP_1",
+            b"",
+            b"P",
+            b"PIP",
+            b"SER1",
+            b"PIPX_1",
+            b"XIPE_1",
+            b"PIPE1",
+            b"PIPE 1",
+            b"PIPES_1",
+            b"PIPE\x7F1",
+            b" PIPE_1",
+            b"\xD0IPE_1",
+            b"0IPE_1",
+            b"PIPE-1",
+            b"PIP_1",
         ];
         for name in unknown {
             assert_eq!(queue_length(name), Err(NOT_FOUND), "{name:?}");
@@ -181,7 +205,9 @@ mod tests {
         for k in 0..POSITIONS {
             assert_eq!(desk.open(0xFFFF, b"PIPE_1").1[A0], number(k as u32 + 1, k));
         }
-        for (name, key) in [(&b"PIPE_9"[..], CHANNEL_NOT_OPEN), (b"PIPE_32766", CHANNEL_NOT_OPEN), (b"PIPE_0", BAD_NAME)] {
+        for (name, key) in
+            [(&b"PIPE_9"[..], CHANNEL_NOT_OPEN), (b"PIPE_32766", CHANNEL_NOT_OPEN), (b"PIPE_0", BAD_NAME)]
+        {
             assert_eq!(desk.open(0, name).0, key);
         }
         desk.close(number(6, 5));
@@ -235,7 +261,7 @@ mod tests {
             let mut model = std::collections::VecDeque::new();
             let mut random = crate::random::Random::new(u64::from(length));
             for _ in 0..400 {
-                let byte = random.next();
+                let byte = random.longword();
                 if random.once_in(2) {
                     let (key, after) = desk.queue(0x5, channel, byte, 0x7777_0000);
                     assert_eq!(key == 0, model.len() < length as usize);

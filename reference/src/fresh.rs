@@ -9,12 +9,12 @@ pub const FIRST_PRIORITY: u32 = 32;
 
 /// Whether N is 1,024 to 16,384 and a multiple of 4.
 pub fn length_is_good(length: usize) -> bool {
-    (LEAST_LENGTH..=GREATEST_LENGTH).contains(&length) && length % STEP == 0
+    (LEAST_LENGTH..=GREATEST_LENGTH).contains(&length) && length.is_multiple_of(STEP)
 }
 
 /// Whether H is a multiple of 4, at least 4, and leaves the transient area at least 4, of N longwords.
 pub fn heap_length_is_good(length: usize, heap_length: usize) -> bool {
-    heap_length % STEP == 0 && heap_length >= STEP && heap_length <= length - HEAP - STEP
+    heap_length.is_multiple_of(STEP) && heap_length >= STEP && heap_length <= length - HEAP - STEP
 }
 
 /// Makes the lent memory a fresh picture, or answers -4 and writes nothing.
@@ -101,7 +101,9 @@ mod tests {
 
     #[test]
     fn good_sizes_give_a_sound_picture() {
-        for (n, h) in [(1_024, 4), (1_024, 628), (1_024, 256), (1_028, 4), (16_384, 4), (16_384, 15_988), (16_384, 8_192)] {
+        for (n, h) in
+            [(1_024, 4), (1_024, 628), (1_024, 256), (1_028, 4), (16_384, 4), (16_384, 15_988), (16_384, 8_192)]
+        {
             assert!(is_sound(&fresh_picture(n, h)), "N {n} H {h}");
         }
     }

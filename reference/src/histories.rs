@@ -78,7 +78,10 @@ impl History {
             let record = &self.picture[job_record(k)..][..JOB_RECORD];
             let (number, priority) = (record[job::NUMBER], record[job::PRIORITY]);
             let live = in_use(self.picture[JOB_MASK], k);
-            if !live || !ready(priority, record[job::TIMEOUT]) || (waiting.number, waiting.priority) != (number, priority) {
+            if !live
+                || !ready(priority, record[job::TIMEOUT])
+                || (waiting.number, waiting.priority) != (number, priority)
+            {
                 *waiting = Waiting { number, priority, picks: 0 };
                 continue;
             }
@@ -122,7 +125,14 @@ fn lively_histories_keep_every_promise() {
 #[test]
 fn turns_are_fair_among_many_jobs() {
     let mut random = Random::new(12);
-    let mix = [(Act::Pick, 80), (Act::Tick, 4), (Act::Create, 4), (Act::Activate, 6), (Act::Suspend, 2), (Act::SetPriority, 2)];
+    let mix = [
+        (Act::Pick, 80),
+        (Act::Tick, 4),
+        (Act::Create, 4),
+        (Act::Activate, 6),
+        (Act::Suspend, 2),
+        (Act::SetPriority, 2),
+    ];
     let mut longest = 0;
     for _ in 0..6 {
         let mut history = History::new(1_536, 128);
@@ -142,9 +152,9 @@ fn any_registers_get_an_answer() {
         if random.once_in(3) || history.picture[CURRENT] == NOBODY {
             history.step(&mut random, LIVELY);
         }
-        let mut registers: Registers = std::array::from_fn(|_| random.next() >> random.below(32));
+        let mut registers: Registers = std::array::from_fn(|_| random.longword() >> random.below(32));
         registers[D0] = random.between(0, 0x1A);
-        let name: Vec<u8> = (0..random.below(9)).map(|_| random.next() as u8).collect();
+        let name: Vec<u8> = (0..random.below(9)).map(|_| random.longword() as u8).collect();
         let trap = random.between(0, 4);
         history.take_step(Step::Trap { trap, registers, name });
     }
@@ -159,7 +169,7 @@ fn any_picture_gets_an_answer_and_an_unsound_one_is_left_alone() {
             picture.truncate(random.below(1_100));
         }
         let before = picture.clone();
-        let mut registers: Registers = std::array::from_fn(|_| random.next() >> random.below(32));
+        let mut registers: Registers = std::array::from_fn(|_| random.longword() >> random.below(32));
         registers[D0] = random.between(0, 0x1A);
         let given = registers;
         let key = manager::call(random.between(1, 3), &mut registers, b"PIPE_9", &mut picture);

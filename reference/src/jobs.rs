@@ -208,7 +208,7 @@ pub fn activate(registers: &mut Registers, picture: &mut [u32]) -> Answer {
         return Err(NOT_COMPLETE);
     }
     let priority = u32::from(low_byte(registers[D2]));
-    if priority < 1 || priority > GREATEST_PRIORITY {
+    if !(1..=GREATEST_PRIORITY).contains(&priority) {
         return Err(BAD_PARAMETER);
     }
     let timeout = i32::from(low_word(registers[D3]));
@@ -288,7 +288,9 @@ mod tests {
         for data in 0..4 {
             assert_eq!(desk.create(0, MINUS_1, data).0, BAD_PARAMETER);
         }
-        for (code, data) in [(MINUS_1, MINUS_1), (MINUS_1, 4), (0, MINUS_1), (0xFFFF_FFEC, 4), (0x8000_0000, 0x8000_0000)] {
+        for (code, data) in
+            [(MINUS_1, MINUS_1), (MINUS_1, 4), (0, MINUS_1), (0xFFFF_FFEC, 4), (0x8000_0000, 0x8000_0000)]
+        {
             assert_eq!(desk.create(0, code, data).0, OUT_OF_MEMORY);
         }
         assert_eq!(desk.picture[LAST_JOB_TAG], 0);
@@ -406,7 +408,10 @@ mod tests {
         // Old bytes of rooms stay: the two lengths of the queues that were.
         let left: Vec<(usize, u32)> =
             (0..1_024).filter(|&k| desk.picture[k] != expected[k]).map(|k| (k, desk.picture[k])).collect();
-        assert!(left.iter().all(|&(k, longword)| k > HEAP && [4, 40].contains(&longword)) && left.len() == 2, "{left:?}");
+        assert!(
+            left.iter().all(|&(k, longword)| k > HEAP && [4, 40].contains(&longword)) && left.len() == 2,
+            "{left:?}"
+        );
     }
 
     #[test]

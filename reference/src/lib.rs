@@ -3,17 +3,17 @@
 //! Written from the paper alone. It is the second reading that another version is compared with, and the
 //! baseline for its speed.
 
+pub mod blocks;
+pub mod channels;
+pub mod errors;
+pub mod fresh;
+pub mod jobs;
+pub mod keys;
+pub mod manager;
 pub mod picture;
 pub mod registers;
-pub mod keys;
 pub mod sound;
-pub mod fresh;
-pub mod blocks;
-pub mod jobs;
-pub mod channels;
 pub mod turns;
-pub mod errors;
-pub mod manager;
 
 pub mod hexadecimal;
 pub mod lines;
@@ -24,5 +24,5 @@ pub mod trial;
 mod desk;
 #[cfg(test)]
 mod histories;
-pub mod random;
 pub mod make;
+pub mod random;

@@ -87,7 +87,9 @@ mod tests {
     #[test]
     fn the_picture_comes_before_nobody_current_before_an_unknown_call() {
         let mut desk = Desk::fresh();
-        for (trap, d0) in [(1, 0x3), (1, 0x7), (1, 0xC), (1, 0x17), (1, 0x1A), (2, 0x0), (2, 0x3), (3, 0x2), (3, 0x4), (0, 0), (4, 1)] {
+        for (trap, d0) in
+            [(1, 0x3), (1, 0x7), (1, 0xC), (1, 0x17), (1, 0x1A), (2, 0x0), (2, 0x3), (3, 0x2), (3, 0x4), (0, 0), (4, 1)]
+        {
             assert_eq!(desk.all(trap, [d0; 8], b"").0, BAD_PARAMETER);
         }
         for d0 in [0x100, 0x1_0000, 0x8000_0000, 0x0100_0018, NOBODY] {

@@ -7,13 +7,13 @@ impl Random {
     pub fn new(seed: u64) -> Self {
         let mut random = Random(seed.wrapping_mul(0x9E37_79B9_7F4A_7C15) ^ 0xD1B5_4A32_D192_ED03 | 1);
         for _ in 0..8 {
-            random.next();
+            random.longword();
         }
         random
     }
 
     /// The next 32 bits (xorshift with a multiplied answer).
-    pub fn next(&mut self) -> u32 {
+    pub fn longword(&mut self) -> u32 {
         self.0 ^= self.0 >> 12;
         self.0 ^= self.0 << 25;
         self.0 ^= self.0 >> 27;
@@ -22,12 +22,12 @@ impl Random {
 
     /// A number below the bound, which is at least 1.
     pub fn below(&mut self, bound: usize) -> usize {
-        (u64::from(self.next()) * bound as u64 >> 32) as usize
+        ((u64::from(self.longword()) * bound as u64) >> 32) as usize
     }
 
     /// A number from the least to the greatest, both included.
     pub fn between(&mut self, least: u32, greatest: u32) -> u32 {
-        least + (u64::from(self.next()) * (u64::from(greatest - least) + 1) >> 32) as u32
+        least + ((u64::from(self.longword()) * (u64::from(greatest - least) + 1)) >> 32) as u32
     }
 
     /// Whether something happens that happens once in so many times.

@@ -39,7 +39,7 @@ pub fn read_line<'a>(line: &[u8], name: &'a mut [u8; LONGEST_NAME]) -> Frame<'a>
 }
 
 fn read<'a>(line: &[u8], name: &'a mut [u8; LONGEST_NAME]) -> Option<Frame<'a>> {
-    if line.len() > LONGEST_LINE || line.len() % 2 != 0 {
+    if line.len() > LONGEST_LINE || !line.len().is_multiple_of(2) {
         return None;
     }
     let (&trap, behind) = line.split_first_chunk()?;

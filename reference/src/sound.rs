@@ -121,6 +121,7 @@ pub enum Rule {
 
 impl Rule {
     /// Every rule, in the paper's order.
+    #[rustfmt::skip]
     pub const ALL: [Rule; 54] = {
         use Rule::*;
         [
@@ -145,10 +146,10 @@ impl Rule {
         let h = picture[HEAP_LENGTH] as usize;
         match self {
             Rule::PictureLength => (LEAST_LENGTH..=GREATEST_LENGTH).contains(&n),
-            Rule::PictureMultiple => n % STEP == 0,
+            Rule::PictureMultiple => n.is_multiple_of(STEP),
             Rule::LongwordZero => picture[LENGTH] as usize == n,
             Rule::LongwordSeven => picture[SPARE] == 0,
-            Rule::HeapMultiple => h % STEP == 0,
+            Rule::HeapMultiple => h.is_multiple_of(STEP),
             Rule::HeapLength => h >= STEP,
             Rule::TransientLength => HEAP + h + STEP <= n,
 
@@ -180,17 +181,13 @@ impl Rule {
             Rule::StartAddress => {
                 reading.headers().all(|header| header[block::KIND] == block::JOB || header[block::START] == 0)
             }
-            Rule::FreeHeader => reading
-                .headers()
-                .all(|header| header[block::KIND] != block::FREE || header[block::OWNER..] == [0, 0]),
-            Rule::QueueLength => {
-                reading.queues().all(|(_, room)| (1..=queue::LONGEST).contains(&room[queue::LENGTH]))
+            Rule::FreeHeader => {
+                reading.headers().all(|header| header[block::KIND] != block::FREE || header[block::OWNER..] == [0, 0])
             }
+            Rule::QueueLength => reading.queues().all(|(_, room)| (1..=queue::LONGEST).contains(&room[queue::LENGTH])),
             Rule::QueueBlock => {
                 reading.blocks_of(block::QUEUE).all(|at| picture[at] >= queue::BEFORE_BYTES)
-                    && reading
-                        .queues()
-                        .all(|(length, room)| u64::from(length) == queue_block(room[queue::LENGTH]))
+                    && reading.queues().all(|(length, room)| u64::from(length) == queue_block(room[queue::LENGTH]))
             }
             Rule::QueueIndex => reading.queues().all(|(_, room)| room[queue::INDEX] < room[queue::LENGTH]),
             Rule::QueueCount => reading.queues().all(|(_, room)| room[queue::COUNT] <= room[queue::LENGTH]),
@@ -205,16 +202,16 @@ impl Rule {
             }
             Rule::TransientKind => reading.heap.iter().all(|at| picture[at + block::KIND] != block::JOB),
             Rule::JobBlock => reading.bases_are_blocks(reading.job_bases(), block::JOB),
-            Rule::BlockJob => reading
-                .blocks_of(block::JOB)
-                .all(|at| reading.job_bases().any(|base| base == 4 * at as u32)),
+            Rule::BlockJob => {
+                reading.blocks_of(block::JOB).all(|at| reading.job_bases().any(|base| base == 4 * at as u32))
+            }
             Rule::JobBlockOwner => reading.owners_are_equal(block::JOB, || {
                 reading.jobs().filter(|&(k, _)| k > 0).map(|(_, r)| (r[job::BASE], r[job::OWNER]))
             }),
             Rule::ChannelBlock => reading.bases_are_blocks(reading.channel_bases(), block::QUEUE),
-            Rule::BlockChannel => reading
-                .blocks_of(block::QUEUE)
-                .all(|at| reading.channel_bases().any(|base| base == 4 * at as u32)),
+            Rule::BlockChannel => {
+                reading.blocks_of(block::QUEUE).all(|at| reading.channel_bases().any(|base| base == 4 * at as u32))
+            }
             Rule::ChannelBlockOwner => reading.owners_are_equal(block::QUEUE, || {
                 reading.channels().map(|(_, r)| (r[channel::BASE], r[channel::OWNER]))
             }),
@@ -234,9 +231,7 @@ impl Rule {
                 k == 0 || record[job::OWNER] == NOBODY || tag(record[job::OWNER]) < tag(record[job::NUMBER])
             }),
             Rule::JobZeroOwner => reading.jobs().all(|(k, record)| k > 0 || record[job::OWNER] == NOBODY),
-            Rule::JobTagGiven => {
-                reading.jobs().all(|(_, record)| tag(record[job::NUMBER]) <= picture[LAST_JOB_TAG])
-            }
+            Rule::JobTagGiven => reading.jobs().all(|(_, record)| tag(record[job::NUMBER]) <= picture[LAST_JOB_TAG]),
             Rule::ChannelTagGiven => {
                 reading.channels().all(|(_, record)| tag(record[channel::NUMBER]) <= picture[LAST_CHANNEL_TAG])
             }
@@ -250,15 +245,14 @@ impl Rule {
                     })
             }
             Rule::WaitedFor => reading.jobs().all(|(_, record)| {
-                record[job::WAIT] == 0
-                    || record[job::WAIT] != record[job::NUMBER] && reading.is_live(record[job::WAIT])
+                record[job::WAIT] == 0 || record[job::WAIT] != record[job::NUMBER] && reading.is_live(record[job::WAIT])
             }),
-            Rule::WaitTimeout => reading
+            Rule::WaitTimeout => {
+                reading.jobs().all(|(_, record)| record[job::WAIT] == 0 || record[job::TIMEOUT] as i32 == WITHOUT_END)
+            }
+            Rule::AccumulatedReady => reading
                 .jobs()
-                .all(|(_, record)| record[job::WAIT] == 0 || record[job::TIMEOUT] as i32 == WITHOUT_END),
-            Rule::AccumulatedReady => reading.jobs().all(|(_, record)| {
-                record[job::ACCUMULATED] == 0 || ready(record[job::PRIORITY], record[job::TIMEOUT])
-            }),
+                .all(|(_, record)| record[job::ACCUMULATED] == 0 || ready(record[job::PRIORITY], record[job::TIMEOUT])),
         }
     }
 }
@@ -314,9 +308,7 @@ impl<'a> Reading<'a> {
 
     fn unused_channels(&self) -> impl Iterator<Item = &'a [u32]> + use<'a> {
         let mask = self.picture[CHANNEL_MASK];
-        self.records(CHANNEL_RECORDS, CHANNEL_RECORD)
-            .filter(move |&(k, _)| !in_use(mask, k))
-            .map(|(_, record)| record)
+        self.records(CHANNEL_RECORDS, CHANNEL_RECORD).filter(move |&(k, _)| !in_use(mask, k)).map(|(_, record)| record)
     }
 
     fn job_tags(&self) -> impl Iterator<Item = u32> + use<'a> {
@@ -367,9 +359,8 @@ impl<'a> Reading<'a> {
     }
 
     fn owners_are_equal<I: Iterator<Item = (u32, u32)>>(&self, kind: u32, records: impl Fn() -> I) -> bool {
-        self.blocks_of(kind).all(|at| {
-            records().all(|(base, owner)| base != 4 * at as u32 || owner == self.picture[at + block::OWNER])
-        })
+        self.blocks_of(kind)
+            .all(|at| records().all(|(base, owner)| base != 4 * at as u32 || owner == self.picture[at + block::OWNER]))
     }
 
     fn is_live(&self, number: u32) -> bool {
@@ -384,7 +375,7 @@ fn headers_of(picture: &[u32], area: Range<usize>) -> (Vec<usize>, bool) {
     while at + block::HEADER <= area.end {
         headers.push(at);
         let length = picture[at + block::LENGTH];
-        if length < block::HEADER_BYTES || length % 4 != 0 {
+        if length < block::HEADER_BYTES || !length.is_multiple_of(4) {
             return (headers, false);
         }
         at += (length / 4) as usize;
@@ -463,7 +454,7 @@ impl Blocks {
     /// Whether a block that is marked stands at the base; its mark goes, so that no other record has it.
     fn unmark(&mut self, base: u32, area: Range<usize>) -> bool {
         let at = (base / 4) as usize;
-        if base % block::HEADER_BYTES != 0 || !area.contains(&at) {
+        if !base.is_multiple_of(block::HEADER_BYTES) || !area.contains(&at) {
             return false;
         }
         let (longword, bit) = (&mut self.marked[at / STEP / 64], 1 << (at / STEP % 64));
@@ -604,7 +595,7 @@ impl Blocks {
 
 /// Whether a block's length is a multiple of 16, at least 16, and ends within what is left of its area.
 fn length_holds(length: u32, left: usize) -> bool {
-    length >= block::HEADER_BYTES && length % block::HEADER_BYTES == 0 && (length / 4) as usize <= left
+    length >= block::HEADER_BYTES && length.is_multiple_of(block::HEADER_BYTES) && (length / 4) as usize <= left
 }
 
 /// The rules of a queue's room, in a block of this length that lies within its area.
@@ -613,11 +604,7 @@ fn queue_holds(length: u32, room: &[u32]) -> bool {
         return false;
     }
     let Some(&[n, index, count, zero]) = room.first_chunk() else { return false };
-    (1..=queue::LONGEST).contains(&n)
-        && u64::from(length) == queue_block(n)
-        && index < n
-        && count <= n
-        && zero == 0
+    (1..=queue::LONGEST).contains(&n) && u64::from(length) == queue_block(n) && index < n && count <= n && zero == 0
 }
 
 #[cfg(test)]
@@ -686,11 +673,25 @@ mod tests {
             (ChannelPosition, &[(channel_record(0), 0x0001_0001)]),
             (
                 JobZeroNumber,
-                &[(8, 0x0001_0000), (CURRENT, 0x0001_0000), (392 + 2, JOB_1), (child(job::OWNER), NOBODY), (648 + 2, NOBODY)],
+                &[
+                    (8, 0x0001_0000),
+                    (CURRENT, 0x0001_0000),
+                    (392 + 2, JOB_1),
+                    (child(job::OWNER), NOBODY),
+                    (648 + 2, NOBODY),
+                ],
             ),
             (
                 JobZeroExists,
-                &[(9, 0), (11, 0), (JOB_MASK, 6), (CURRENT, NOBODY), (392 + 2, JOB_1), (child(1), NOBODY), (648 + 2, NOBODY)],
+                &[
+                    (9, 0),
+                    (11, 0),
+                    (JOB_MASK, 6),
+                    (CURRENT, NOBODY),
+                    (392 + 2, JOB_1),
+                    (child(1), NOBODY),
+                    (648 + 2, NOBODY),
+                ],
             ),
             (JobTag, &[(stranger(job::NUMBER), 2)]),
             (ChannelTag, &[(channel_record(0), 0)]),
@@ -716,7 +717,10 @@ mod tests {
             (BlockJob, &[(668 + 1, 3)]),
             (JobBlockOwner, &[(648 + 2, NOBODY)]),
             (JobBlockOwner, &[(stranger(job::OWNER), 0)]),
-            (ChannelBlock, &[(CHANNEL_MASK, 3), (268, 0x0002_0001), (269, JOB_1), (270, 1_600), (271, 1), (LAST_CHANNEL_TAG, 2)]),
+            (
+                ChannelBlock,
+                &[(CHANNEL_MASK, 3), (268, 0x0002_0001), (269, JOB_1), (270, 1_600), (271, 1), (LAST_CHANNEL_TAG, 2)],
+            ),
             (ChannelBlock, &[(CHANNEL_MASK, 3), (268, 0x0002_0001), (269, 0), (271, 1), (LAST_CHANNEL_TAG, 2)]),
             (BlockChannel, &[(412 + 1, 2), (416, 900)]),
             (ChannelBlockOwner, &[(400 + 2, 0)]),
@@ -757,7 +761,13 @@ mod tests {
         let cases: &[&[(usize, u32)]] = &[
             &[],
             // Keys to deliver, start addresses, queue bytes and padding, room of any block.
-            &[(job_record(0) + job::KEY, 0xDEAD), (child(job::KEY), NOBODY), (648 + 3, NOBODY), (408, NOBODY), (409, 7)],
+            &[
+                (job_record(0) + job::KEY, 0xDEAD),
+                (child(job::KEY), NOBODY),
+                (648 + 3, NOBODY),
+                (408, NOBODY),
+                (409, 7),
+            ],
             &[(411, 1), (396, 2), (654, 3), (430, 4), (700, 5)],
             // Rings of waiting jobs, inactive waiters, timeout -1 without a wait.
             &[(child(6), JOB_2), (child(5), without_end), (stranger(6), JOB_1), (stranger(5), without_end)],

@@ -251,7 +251,10 @@ mod tests {
         let after = "0000000000000070000000000000000000000630000000000000000000000000";
         let changes = "0188=00000080,0189=00000001,01A8=00000380";
         assert_eq!(answer(&format!("01 {REGISTERS} {fresh}")), format!("00000000 {after} {changes}"));
-        assert_eq!(answer(&format!("01ABcd {REGISTERS} {}", fresh.to_ascii_lowercase())), format!("00000000 {after} {changes}"));
+        assert_eq!(
+            answer(&format!("01ABcd {REGISTERS} {}", fresh.to_ascii_lowercase())),
+            format!("00000000 {after} {changes}")
+        );
         assert_eq!(answer(&format!("07 {REGISTERS} {fresh}")), format!("FFFFFFF1 FFFFFFF1{} -", &REGISTERS[8..]));
         assert_eq!(answer(&format!("07 {REGISTERS} -")), format!("FFFFFFF0 FFFFFFF0{} -", &REGISTERS[8..]));
         assert_eq!(answer(&format!("01 {} {fresh}", &REGISTERS[8..])), format!("FFFFFFF1 {} -", &REGISTERS[8..]));
@@ -274,7 +277,8 @@ mod tests {
 
     #[test]
     fn fresh_over_lent_memory() {
-        let changes = "0000=00000400,0004=00000100,0005=00000001,0009=FFFFFFFF,000B=00000020,0188=00000400,0288=000005E0";
+        let changes =
+            "0000=00000400,0004=00000100,0005=00000001,0009=FFFFFFFF,000B=00000020,0188=00000400,0288=000005E0";
         assert_eq!(answer("FF0000040000000100 - 00000000x0400"), format!("00000000 - {changes}"));
         let mut lent = fresh_picture(1_024, 256);
         assert_eq!(answer(&format!("FF0000040000000100 - {}", runs(&lent))), "00000000 - -");
@@ -300,12 +304,49 @@ mod tests {
         let registers_over = format!("01 {} -", "00000000".repeat(17));
         let line_over = format!("FEFFFFFFFF {} -", "00".repeat(150_000));
         for line in [
-            "", " ", "  ", "01", "01 -", "01 - ", "01  -", "01 - - ", " 01 - -", "01 - - -", "1 - -", "011 - -", "0G - -",
-            "F2 - -", "FD - -", "F000 - -", "F100 - -", "FF - -", "FF00000400 - -", "FF000004000000010000 - -", "FE - -",
-            "FE0000000 - -", "FEFFFFFFFF 0 -", "FEFFFFFFFF - 000", "FEFFFFFFFF - 0G", "FEFFFFFFFF  -", "01 0000000 -",
-            "01 000000000 -", "01 00000000x0001 -", "01 - 0000000", "01 - 00000000x", "01 - 00000000x0000",
-            "01 - 00000000X0001", "01 - 00000000x4001", "01 - 00000000x400000000000", "01 - x0001", "01 - 00000000x0001x0001",
-            "01\t- -", "01 - -\r", "\u{e9} - -", &name_over, &registers_over, &line_over,
+            "",
+            " ",
+            "  ",
+            "01",
+            "01 -",
+            "01 - ",
+            "01  -",
+            "01 - - ",
+            " 01 - -",
+            "01 - - -",
+            "1 - -",
+            "011 - -",
+            "0G - -",
+            "F2 - -",
+            "FD - -",
+            "F000 - -",
+            "F100 - -",
+            "FF - -",
+            "FF00000400 - -",
+            "FF000004000000010000 - -",
+            "FE - -",
+            "FE0000000 - -",
+            "FEFFFFFFFF 0 -",
+            "FEFFFFFFFF - 000",
+            "FEFFFFFFFF - 0G",
+            "FEFFFFFFFF  -",
+            "01 0000000 -",
+            "01 000000000 -",
+            "01 00000000x0001 -",
+            "01 - 0000000",
+            "01 - 00000000x",
+            "01 - 00000000x0000",
+            "01 - 00000000X0001",
+            "01 - 00000000x4001",
+            "01 - 00000000x400000000000",
+            "01 - x0001",
+            "01 - 00000000x0001x0001",
+            "01\t- -",
+            "01 - -\r",
+            "\u{e9} - -",
+            &name_over,
+            &registers_over,
+            &line_over,
         ] {
             assert_eq!(answers(&format!("{line}\n")), "?\n", "{line}");
         }

@@ -2,3 +2,4 @@
 pub mod Sound
 pub mod View
 pub mod Same
+pub mod Ages

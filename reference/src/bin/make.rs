@@ -1,4 +1,4 @@
-//! Prints trials or a session's lines of one kind: `make KIND [SEED [COUNT]]`.
+//! Prints trials or a session's lines of one kind: `make KIND [SEED [COUNT]]`. The kind `all` is all trials in a row.
 
 use std::io::{stdout, BufWriter, Write};
 use std::process::ExitCode;
@@ -8,7 +8,7 @@ use reference::make::{self, SessionKind, TrialKind, DEFAULT_SEED};
 fn kinds() -> String {
     let trials = TrialKind::ALL.map(TrialKind::name);
     let sessions = SessionKind::ALL.map(SessionKind::name);
-    [trials.as_slice(), &sessions].concat().join(", ")
+    [trials.as_slice(), &["all"], &sessions].concat().join(", ")
 }
 
 /// A number among the arguments, or what stands for it where it is left out.
@@ -21,7 +21,9 @@ fn number<T: std::str::FromStr>(argument: Option<String>, otherwise: T, what: &s
 
 fn run() -> Result<(), String> {
     let mut arguments = std::env::args().skip(1);
-    let kind = arguments.next().ok_or_else(|| format!("say what to make: make KIND [SEED [COUNT]], KIND one of {}", kinds()))?;
+    let kind = arguments
+        .next()
+        .ok_or_else(|| format!("say what to make: make KIND [SEED [COUNT]], KIND one of {}", kinds()))?;
     let seed = number(arguments.next(), DEFAULT_SEED, "SEED")?;
     let count = arguments.next();
     let mut output = BufWriter::with_capacity(65_536, stdout().lock());
@@ -31,7 +33,11 @@ fn run() -> Result<(), String> {
             failed.get_or_insert(error);
         }
     };
-    if let Some(kind) = TrialKind::ALL.into_iter().find(|known| known.name() == kind) {
+    if kind == "all" {
+        for kind in TrialKind::ALL {
+            make::trials(kind, seed, number(count.clone(), kind.default_count(), "COUNT")?, &mut take);
+        }
+    } else if let Some(kind) = TrialKind::ALL.into_iter().find(|known| known.name() == kind) {
         make::trials(kind, seed, number(count, kind.default_count(), "COUNT")?, &mut take);
     } else if let Some(kind) = SessionKind::ALL.into_iter().find(|known| known.name() == kind) {
         make::session(kind, seed, number(count, SessionKind::DEFAULT_COUNT, "COUNT")?, &mut take);

@@ -38,7 +38,7 @@ fn ask(maker: &mut Maker, world: &World) {
 }
 
 fn take(maker: &mut Maker, world: &World, bytes: u32, owner: u32) {
-    let registers = [0x18, bytes, owner, maker.random.next(), 4, 5, 6, 7];
+    let registers = [0x18, bytes, owner, maker.random.longword(), 4, 5, 6, 7];
     maker.trap(1, b"", &registers, &world.picture);
 }
 
@@ -82,7 +82,15 @@ fn take_from_fresh(maker: &mut Maker) {
     }
     for (length, heap_length) in [(1_024, 4), (1_024, 8), (1_024, 256), (1_024, 628), (16_384, 15_988)] {
         let most = 4 * heap_length as u32 - 16;
-        for bytes in [most.saturating_sub(17), most.saturating_sub(16), most.saturating_sub(15), most.saturating_sub(1), most, most + 1, most + 16] {
+        for bytes in [
+            most.saturating_sub(17),
+            most.saturating_sub(16),
+            most.saturating_sub(15),
+            most.saturating_sub(1),
+            most,
+            most + 1,
+            most + 16,
+        ] {
             take(maker, &World::new(length, heap_length), bytes, 0);
         }
     }
@@ -136,7 +144,8 @@ fn take_owners(maker: &mut Maker) {
     let second = world.create(false, 20);
     world.call(1, [0x5, first, 0, 0, 0, 0, 0, 0], b"");
     world.pick();
-    for owner in [0, first, second, second + 0x1_0000, second & 0xFFFF, 0xFFFF, 0x8000, 0x7FFF, NOBODY, 0x1234_8000, 32] {
+    for owner in [0, first, second, second + 0x1_0000, second & 0xFFFF, 0xFFFF, 0x8000, 0x7FFF, NOBODY, 0x1234_8000, 32]
+    {
         take(maker, &world, 40, owner);
         take(maker, &world, 0, owner);
         take(maker, &world, 5_000, owner);

@@ -33,7 +33,7 @@ pub fn one_more(maker: &mut Maker) {
 }
 
 fn open(maker: &mut Maker, world: &World, job: u32, name: &[u8]) {
-    let a0 = maker.random.next();
+    let a0 = maker.random.longword();
     maker.trap(2, name, &[0x1, job, 2, 3, a0, 5, 6, 7], &world.picture);
 }
 
@@ -48,13 +48,69 @@ fn queue_call(maker: &mut Maker, world: &World, call: u32, channel: u32, d1: u32
 fn names(maker: &mut Maker) {
     let world = World::new(1_024, 256);
     let names: &[&[u8]] = &[
-        b"", b"P", b"PIP", b"PIPE", b"pipe", b"PiPe", b"pIpE_7", b"PIPE_7", b"pipe_7", b"PIPE_", b"PIPE_0", b"PIPE_00",
-        b"PIPE_00000", b"PIPE_1", b"PIPE_01", b"PIPE_00001", b"PIPE_000001", b"PIPE_000000", b"PIPE_32766", b"PIPE_32767",
-        b"PIPE_99999", b"PIPE_65537", b"PIPE_65536", b"PIPE_100000", b"PIPE_4294967297", b"PIPE_12a", b"PIPE_a", b"PIPE_-1",
-        b"PIPE_+1", b"PIPE_ 1", b"PIPE_1 ", b"PIPE_1_", b"PIPE__1", b"PIPE_1.0", b"PIPE1", b"PIPE 1", b"PIPEX", b"PIPE-1",
-        b"PIPES_1", b"XPIPE_1", b" PIPE_1", b"PIPF_1", b"QIPE_1", b"PJPE_1", b"PIQE_1", b"SER1", b"CON_", b"PIPE\0",
-        b"PIPE_\x001", b"PIPE_1\0", b"\xD0IPE_1", b"0IPE_1", b"PIPE_:", b"PIPE_/", b"PIPE\x7F5", b"PIPE?5", b"\xFF\xFE",
-        b"PIPE_\xB1", b"pIPE_992", b"PIPE_993", b"PIPE_00992", b"Pipe_16", b"PIPE_17",
+        b"",
+        b"P",
+        b"PIP",
+        b"PIPE",
+        b"pipe",
+        b"PiPe",
+        b"pIpE_7",
+        b"PIPE_7",
+        b"pipe_7",
+        b"PIPE_",
+        b"PIPE_0",
+        b"PIPE_00",
+        b"PIPE_00000",
+        b"PIPE_1",
+        b"PIPE_01",
+        b"PIPE_00001",
+        b"PIPE_000001",
+        b"PIPE_000000",
+        b"PIPE_32766",
+        b"PIPE_32767",
+        b"PIPE_99999",
+        b"PIPE_65537",
+        b"PIPE_65536",
+        b"PIPE_100000",
+        b"PIPE_4294967297",
+        b"PIPE_12a",
+        b"PIPE_a",
+        b"PIPE_-1",
+        b"PIPE_+1",
+        b"PIPE_ 1",
+        b"PIPE_1 ",
+        b"PIPE_1_",
+        b"PIPE__1",
+        b"PIPE_1.0",
+        b"PIPE1",
+        b"PIPE 1",
+        b"PIPEX",
+        b"PIPE-1",
+        b"PIPES_1",
+        b"XPIPE_1",
+        b" PIPE_1",
+        b"PIPF_1",
+        b"QIPE_1",
+        b"PJPE_1",
+        b"PIQE_1",
+        b"SER1",
+        b"CON_",
+        b"PIPE\0",
+        b"PIPE_\x001",
+        b"PIPE_1\0",
+        b"\xD0IPE_1",
+        b"0IPE_1",
+        b"PIPE_:",
+        b"PIPE_/",
+        b"PIPE\x7F5",
+        b"PIPE?5",
+        b"\xFF\xFE",
+        b"PIPE_\xB1",
+        b"pIPE_992",
+        b"PIPE_993",
+        b"PIPE_00992",
+        b"Pipe_16",
+        b"PIPE_17",
     ];
     for name in names {
         open(maker, &world, 0, name);
@@ -142,11 +198,11 @@ fn rings(maker: &mut Maker) {
     for length in [1, 2, 3, 4, 5, 16, 17] {
         let mut world = World::new(1_024, 64);
         let channel = world.open(0, length);
-        let mut byte = maker.random.next() as u8;
+        let mut byte = maker.random.longword() as u8;
         for round in 0..3 * length + 2 {
             let index_goes_round = round % length == 0 || round % length == length - 1;
             if length <= 5 && round < 2 * length || index_goes_round && round < 2 * length + 1 {
-                let (d1, d3) = (maker.random.next(), maker.random.next() & 0xFFFF_0000);
+                let (d1, d3) = (maker.random.longword(), maker.random.longword() & 0xFFFF_0000);
                 queue_call(maker, &world, 0x5, channel, d1, d3);
                 queue_call(maker, &world, 0x1, channel, d1, d3);
                 queue_call(maker, &world, 0x0, channel, d1, d3);
@@ -170,7 +226,18 @@ fn rings(maker: &mut Maker) {
     }
     // The longest queues that fit, at the ends of their bytes.
     for (picture_length, heap_length, length) in [(1_024, 256, 992), (16_384, 8_200, 32_766), (16_384, 8_196, 32_752)] {
-        for (index, count) in [(0, 0), (0, 1), (length - 1, 0), (length - 1, 1), (length - 1, 2), (length - 2, 1), (5, length - 1), (5, length), (0, length), (0, length - 1)] {
+        for (index, count) in [
+            (0, 0),
+            (0, 1),
+            (length - 1, 0),
+            (length - 1, 1),
+            (length - 1, 2),
+            (length - 2, 1),
+            (5, length - 1),
+            (5, length),
+            (0, length),
+            (0, length - 1),
+        ] {
             let mut world = World::new(picture_length, heap_length);
             let channel = world.open(0, length);
             world.picture[HEAP + block::HEADER + queue::INDEX] = index;

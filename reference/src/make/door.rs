@@ -27,7 +27,7 @@ pub fn one_more(maker: &mut Maker) {
     if maker.random.once_in(3) {
         random_registers(maker, &world);
     } else if unsound {
-        let registers: [u32; 8] = std::array::from_fn(|_| maker.random.next() >> 24);
+        let registers: [u32; 8] = std::array::from_fn(|_| maker.random.longword() >> 24);
         let trap = maker.random.between(1, 3);
         maker.trap(trap, b"PIPE_1", &registers, &world.picture);
     } else {
@@ -42,13 +42,13 @@ pub fn one_more(maker: &mut Maker) {
 /// Any registers and any name.
 fn random_registers(maker: &mut Maker, world: &World) {
     let trap = if maker.random.once_in(6) { maker.random.between(0, 0xEF) } else { maker.random.between(1, 3) };
-    let mut registers: Vec<u32> = (0..8).map(|_| maker.random.next() >> maker.random.below(32)).collect();
-    registers[0] = if maker.random.once_in(3) { maker.random.next() } else { maker.random.between(0, 0x1A) };
+    let mut registers: Vec<u32> = (0..8).map(|_| maker.random.longword() >> maker.random.below(32)).collect();
+    registers[0] = if maker.random.once_in(3) { maker.random.longword() } else { maker.random.between(0, 0x1A) };
     let count = if maker.random.once_in(10) { maker.random.below(17) } else { 8 };
     registers.resize(count, 0x7777_7777);
     let name: Vec<u8> = match maker.random.below(3) {
         0 => Vec::new(),
-        1 => (0..maker.random.below(12)).map(|_| maker.random.next() as u8).collect(),
+        1 => (0..maker.random.below(12)).map(|_| maker.random.longword() as u8).collect(),
         _ => World::some_name(&mut maker.random),
     };
     maker.trap(trap, &name, &registers, &world.picture);
@@ -70,7 +70,7 @@ fn every_trap_and_call(maker: &mut Maker) {
     for name in [&b""[..], b"PIPE", b"pipe_", b"PIPE_0", b"PIPE_9", b"PIPE9", b"SER1", b"PIPE_32767"] {
         maker.trap(2, name, &[0x1, 0, 0, 0, 0, 0, 0, 0], &picture);
     }
-    for trap in [0x05, 0x10, 0x11, 0x81, 0x82, 0xEF] {
+    for trap in 0..=0xEF {
         maker.trap(trap, b"", &[0, 0, 0, 0, 0, 0, 0, 0], &picture);
     }
 }

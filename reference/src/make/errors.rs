@@ -14,7 +14,7 @@ fn some_text(random: &mut Random, strings: usize) -> Vec<u8> {
     for _ in 0..strings {
         let length = if random.once_in(5) { 0 } else { random.below(9) };
         text.extend((length as u16).to_be_bytes());
-        text.extend((0..length).map(|_| random.next() as u8));
+        text.extend((0..length).map(|_| random.longword() as u8));
     }
     text
 }
@@ -69,7 +69,7 @@ pub fn one_more(maker: &mut Maker) {
     }
     let key = match maker.random.below(4) {
         0 => maker.random.between(0, driver.len() as u32 + 2) as Key,
-        1 => maker.random.next() as Key >> maker.random.below(32),
+        1 => maker.random.longword() as Key >> maker.random.below(32),
         _ => -(maker.random.between(1, 22) as Key),
     };
     maker.error_text(key, &system, &driver);

@@ -47,7 +47,7 @@ pub fn one_more(maker: &mut Maker) {
 }
 
 fn call(maker: &mut Maker, world: &World, call: u32, d1: u32, d2: u32, d3: u32, a1: u32) {
-    let a0 = maker.random.next();
+    let a0 = maker.random.longword();
     maker.trap(1, b"", &[call, d1, d2, d3, a0, a1, 0x66, 0x77], &world.picture);
 }
 
@@ -70,15 +70,52 @@ fn creations(maker: &mut Maker) {
     let mut other = world.clone();
     other.make_current(grandchild);
     call(maker, &other, 0x0, 1, 2, 3, 5);
-    for owner in [0, child, grandchild, stranger, child + 0x1_0000, 1, 0xFFFF, 0x8000, 0x7FFF_FFFF, 0x8000_0000, NOBODY, 0x8001_0001] {
+    for owner in [
+        0,
+        child,
+        grandchild,
+        stranger,
+        child + 0x1_0000,
+        1,
+        0xFFFF,
+        0x8000,
+        0x7FFF_FFFF,
+        0x8000_0000,
+        NOBODY,
+        0x8001_0001,
+    ] {
         call(maker, &other, 0x1, owner, 10, 10, 0x1234);
         call(maker, &other, 0x1, owner, 10, 3, 0);
     }
     let fresh = World::new(1_024, 256);
-    for (code, data) in [(1_428, 60), (1_429, 60), (1_427, 60), (1_428, 61), (0, 4), (0, 3), (0, 0), (12, 4), (13, 4), (0, 1_488), (0, 1_489), (1_484, 4), (1_485, 4), (1_488, 0)] {
+    for (code, data) in [
+        (1_428, 60),
+        (1_429, 60),
+        (1_427, 60),
+        (1_428, 61),
+        (0, 4),
+        (0, 3),
+        (0, 0),
+        (12, 4),
+        (13, 4),
+        (0, 1_488),
+        (0, 1_489),
+        (1_484, 4),
+        (1_485, 4),
+        (1_488, 0),
+    ] {
         call(maker, &fresh, 0x1, 0, code, data, 0);
     }
-    for (code, data) in [(NOBODY, 4), (4, NOBODY), (NOBODY, NOBODY), (0x8000_0000, 0x8000_0000), (0xFFFF_FFE0, 0x20), (0xFFFF_FFF0, 4), (0, 0xFFFF_FFF0), (NOBODY, 3)] {
+    for (code, data) in [
+        (NOBODY, 4),
+        (4, NOBODY),
+        (NOBODY, NOBODY),
+        (0x8000_0000, 0x8000_0000),
+        (0xFFFF_FFE0, 0x20),
+        (0xFFFF_FFF0, 4),
+        (0, 0xFFFF_FFF0),
+        (NOBODY, 3),
+    ] {
         call(maker, &fresh, 0x1, NOBODY, code, data, NOBODY);
     }
     // Free blocks between jobs: the lowest that is long enough is taken.
@@ -143,6 +180,24 @@ fn deep(maker: &mut Maker, depth: usize, active: bool) -> World {
     world
 }
 
+/// A tree whose tags don't rise with positions: jobs that stood there before have given theirs up one by one.
+fn shuffled(maker: &mut Maker, count: usize, falling: bool, chain: bool) -> World {
+    let mut world = World::new(1_024, 128);
+    let mut before: Vec<u32> = (0..count).map(|_| world.create(false, 4)).collect();
+    if !falling {
+        maker.random.shuffle(&mut before);
+    }
+    let mut members = vec![0];
+    while let Some(old) = before.pop() {
+        let current = world.picture[CURRENT];
+        world.call(1, [0x5, old, 0, 0, 0, 0, 0, 0], b"");
+        world.make_current(current);
+        let owner = if chain { members[members.len() - 1] } else { maker.random.one_of(&members) };
+        members.push(world.create_for(owner, 4));
+    }
+    world
+}
+
 /// A tree in which job 0, or its first child, owns all the others.
 fn wide(maker: &mut Maker, width: usize, below_child: bool, active: bool) -> World {
     let mut world = World::new(1_024, 128);
@@ -171,6 +226,28 @@ fn deep_and_wide(maker: &mut Maker) {
                     call(maker, &world, 0x2, jobs[depth], job, 0, 0);
                 }
             }
+        }
+    }
+    for (count, falling, chain) in [
+        (2, true, true),
+        (4, true, true),
+        (7, true, true),
+        (31, true, true),
+        (6, false, true),
+        (6, false, false),
+        (9, false, false),
+        (12, false, false),
+    ] {
+        let world = shuffled(maker, count, falling, chain);
+        let mut jobs = world.jobs();
+        jobs.sort_by_key(|&number| tag(number));
+        let asked = if count > 12 { vec![1, 16] } else { (0..count).collect() };
+        for place in asked {
+            call(maker, &world, 0x2, jobs[place], 0, 0, 0);
+            call(maker, &world, 0x2, jobs[place], jobs[1], 0, 0);
+        }
+        for place in [1, count / 2 + 1] {
+            call(maker, &world, 0x5, jobs[place], 0, 0x33, 0);
         }
     }
     for width in [2, 8, 31] {
@@ -268,7 +345,17 @@ fn asks(maker: &mut Maker) {
         }
         call(maker, &world, 0x2, 0xFFFF, top, 9, 9);
     }
-    for (asked, top) in [(0, 0xFFFF), (0, NOBODY), (NOBODY, 0), (0x8000, 0), (child + 0x1_0000, 0), (0, child + 0x1_0000), (33, 0), (0, 33), (0x7FFF, 0x7FFF)] {
+    for (asked, top) in [
+        (0, 0xFFFF),
+        (0, NOBODY),
+        (NOBODY, 0),
+        (0x8000, 0),
+        (child + 0x1_0000, 0),
+        (0, child + 0x1_0000),
+        (33, 0),
+        (0, 33),
+        (0x7FFF, 0x7FFF),
+    ] {
         call(maker, &world, 0x2, asked, top, 9, 9);
     }
     // Positions used again have greater tags than those behind them.

@@ -55,12 +55,12 @@ impl TrialKind {
     /// How many trials are made where no count is given.
     pub fn default_count(self) -> usize {
         match self {
-            TrialKind::Sound => 1_500,
+            TrialKind::Sound => 1_750,
             TrialKind::Blocks => 450,
-            TrialKind::Jobs => 800,
+            TrialKind::Jobs => 900,
             TrialKind::Channels => 600,
             TrialKind::Turns => 400,
-            TrialKind::Door => 700,
+            TrialKind::Door => 1_000,
             TrialKind::Errors => 300,
         }
     }
@@ -179,7 +179,7 @@ impl Maker<'_> {
 
     fn few_registers(&mut self) -> Vec<u32> {
         let count = if self.random.once_in(8) { self.random.below(17) } else { 0 };
-        (0..count).map(|_| self.random.next()).collect()
+        (0..count).map(|_| self.random.longword()).collect()
     }
 }
 
@@ -336,12 +336,7 @@ mod tests {
             (TrialKind::Jobs, 1, 0xB, &[BAD_PARAMETER]),
             (TrialKind::Blocks, 1, 0x18, &[BAD_PARAMETER, OUT_OF_MEMORY]),
             (TrialKind::Blocks, 1, 0x19, &[BAD_PARAMETER]),
-            (
-                TrialKind::Channels,
-                2,
-                0x1,
-                &[OUT_OF_MEMORY, CHANNEL_NOT_OPEN, NOT_FOUND, BAD_NAME, BAD_PARAMETER],
-            ),
+            (TrialKind::Channels, 2, 0x1, &[OUT_OF_MEMORY, CHANNEL_NOT_OPEN, NOT_FOUND, BAD_NAME, BAD_PARAMETER]),
             (TrialKind::Channels, 2, 0x2, &[CHANNEL_NOT_OPEN]),
             (TrialKind::Channels, 3, 0x0, &full_or_empty),
             (TrialKind::Channels, 3, 0x1, &full_or_empty),
@@ -406,10 +401,13 @@ mod tests {
     #[test]
     fn turns_are_answered_with_and_without_somebody() {
         let answers: Vec<String> = default_trials(TrialKind::Turns).iter().map(|line| answer(line)).collect();
-        for start in ["00000000 FFFFFFFF", "00000000 00000000", "00000000 -", "FFFFFFF0 FFFFFFFF", "FFFFFFF0 -", "80000000 "] {
+        for start in
+            ["00000000 FFFFFFFF", "00000000 00000000", "00000000 -", "FFFFFFF0 FFFFFFFF", "FFFFFFF0 -", "80000000 "]
+        {
             assert!(answers.iter().any(|answer| answer.starts_with(start)), "{start}");
         }
-        let unsound = answers.iter().filter(|answer| answer.starts_with("FFFFFFF0 FFFFFFFF") || *answer == "FFFFFFF0 - -\n");
+        let unsound =
+            answers.iter().filter(|answer| answer.starts_with("FFFFFFF0 FFFFFFFF") || *answer == "FFFFFFF0 - -\n");
         assert!(unsound.count() <= 12, "pictures meant to be sound are");
     }
 

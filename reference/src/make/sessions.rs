@@ -137,13 +137,13 @@ fn spoil(random: &mut Random, line: &mut Vec<u8>) {
             let length = random.one_of(&[510, 511, 512, 513, 514, 600, 2_000, 70_000]);
             line.resize(if random.once_in(4) { length } else { length.min(514) }, b'4');
         }
-        6 => *line = (0..random.below(90)).map(|_| random.next() as u8).filter(|&byte| byte != b'\n').collect(),
+        6 => *line = (0..random.below(90)).map(|_| random.longword() as u8).filter(|&byte| byte != b'\n').collect(),
         7 => line.iter_mut().for_each(|digit| *digit = random.one_of(b"0123456789abcdefABCDEF")),
         8 => {
             line.clear();
-            write_byte(random.next() as u8, line);
+            write_byte(random.longword() as u8, line);
             for _ in 0..8 {
-                write_longword(random.next() >> random.below(32), line);
+                write_longword(random.longword() >> random.below(32), line);
             }
         }
         9 => {
@@ -156,7 +156,7 @@ fn spoil(random: &mut Random, line: &mut Vec<u8>) {
         _ => {
             line.resize(66, b'0');
             for _ in 0..random.below(224) {
-                write_byte(random.next() as u8, line);
+                write_byte(random.longword() as u8, line);
             }
         }
     }

@@ -23,8 +23,11 @@ pub fn listed(maker: &mut Maker) {
             }
         }
     }
+    every_place(maker);
+    several_together(maker);
     for round in 0..80 {
-        let picture = if round < 12 { World::usual(&mut maker.random).picture } else { some_picture(&mut maker.random) };
+        let picture =
+            if round < 12 { World::usual(&mut maker.random).picture } else { some_picture(&mut maker.random) };
         ask(maker, &picture);
     }
     fresh_trials(maker);
@@ -62,7 +65,11 @@ pub fn one_more(maker: &mut Maker) {
 
 /// A trap that does not exist.
 fn no_trap(random: &mut Random) -> u32 {
-    if random.once_in(10) { 0 } else { random.between(0x04, 0xEF) }
+    if random.once_in(10) {
+        0
+    } else {
+        random.between(0x04, 0xEF)
+    }
 }
 
 /// Asks whether the picture is sound: a trap that does not exist answers -15 or -2 if it is, else -16.
@@ -71,7 +78,7 @@ fn ask(maker: &mut Maker, picture: &[u32]) {
 }
 
 fn ask_with(maker: &mut Maker, registers: usize, picture: &[u32]) {
-    let registers: Vec<u32> = (0..registers).map(|k| maker.random.next() >> (4 * (k % 7))).collect();
+    let registers: Vec<u32> = (0..registers).map(|k| maker.random.longword() >> (4 * (k % 7))).collect();
     let trap = no_trap(&mut maker.random);
     maker.trap(trap, b"", &registers, picture);
 }
@@ -163,10 +170,87 @@ fn random_fresh(maker: &mut Maker) {
     let mut memory = vec![0; lent as usize];
     for _ in 0..maker.random.below(12) {
         if let Some(place) = (lent > 0).then(|| maker.random.below(lent as usize)) {
-            memory[place] = maker.random.next();
+            memory[place] = maker.random.longword();
         }
     }
     maker.fresh(length, heap_length, &memory);
+}
+
+/// One longword changed in every kind of place: fixed longwords, records in use or not, headers and queues.
+fn every_place(maker: &mut Maker) {
+    let mut world = World::new(1_024, 256);
+    let child = world.create(true, 20);
+    world.take(child, 10);
+    let plain = world.take(0, 30);
+    let channel = world.open(child, 6);
+    world.send(channel, 0x41);
+    world.create(false, 40);
+    world.free(plain);
+    let mut places: Vec<usize> = (0..JOB_RECORDS).collect();
+    places.extend([0, 1, 3, 31].map(job_record).into_iter().flat_map(|record| record..record + JOB_RECORD));
+    places.extend([0, 1, 31].map(channel_record).into_iter().flat_map(|record| record..record + CHANNEL_RECORD));
+    for at in [world.heap_headers(), world.transient_headers()].concat() {
+        places.extend(at..at + block::HEADER);
+    }
+    for at in world.blocks_of(block::QUEUE) {
+        places.extend(at + block::HEADER..at + block::HEADER + 6);
+    }
+    for place in places {
+        let before = world.picture[place];
+        for changed in
+            [before.wrapping_add(1), maker.random.one_of(&[before ^ 0x8000_0000, before.wrapping_sub(16), NOBODY, 16])]
+        {
+            world.picture[place] = changed;
+            ask(maker, &world.picture);
+        }
+        world.picture[place] = before;
+    }
+}
+
+/// Changes that make up for each other in a count, and numbers so great that sums of them wrap.
+fn several_together(maker: &mut Maker) {
+    let mut world = World::new(1_024, 256);
+    let jobs = [world.create(true, 20), world.create(true, 20), world.create(false, 40)];
+    let channels = [world.open(0, 5), world.open(0, 5), world.open(jobs[0], 9)];
+    world.take(0, 60);
+    let base_of_job = jobs.map(|number| job_record(position(number)) + job::BASE);
+    let base_of_channel = channels.map(|number| channel_record(position(number)) + channel::BASE);
+    for places in [base_of_job, base_of_channel] {
+        for (one, other) in [(0, 1), (1, 0), (0, 2), (2, 1)] {
+            // Two records have one block, and a block has no record.
+            let mut shared = world.clone();
+            shared.picture[places[one]] = shared.picture[places[other]];
+            ask(maker, &shared.picture);
+            // Bases change places: sound where the owners are equal.
+            let mut swapped = world.clone();
+            swapped.picture.swap(places[one], places[other]);
+            ask(maker, &swapped.picture);
+        }
+        // A base that names its block only if its upper or lower bits aren't read.
+        for wrong in [1, 2, 4, 8, 0x1_0000, 0x4000_0000, 0x8000_0000] {
+            let mut off = world.clone();
+            off.picture[places[0]] ^= wrong;
+            ask(maker, &off.picture);
+        }
+    }
+    for heap_length in [0xFFFF_FFFC, 0xFFFF_FE78, 0x8000_0000, 0x4000_0100, 0x8000_0100, 0x0001_0100, 632, 0xFFFF_FF00]
+    {
+        let mut changed = world.clone();
+        changed.picture[HEAP_LENGTH] = heap_length;
+        ask(maker, &changed.picture);
+    }
+    for length in [0xFFFF_FFF0, 0xFFFF_FFE0, 0x8000_0000, 0x8000_0020, 0x4000_0000, 0] {
+        for at in [HEAP, HEAP + 256] {
+            let mut changed = world.clone();
+            changed.picture[at] = length;
+            ask(maker, &changed.picture);
+        }
+    }
+    for n in [0xFFFF_FFE5, 0xFFFF_FFF0, NOBODY, 0x8000_0005, 0x1_0005, 32_767, 0] {
+        let mut changed = world.clone();
+        changed.picture[HEAP + block::HEADER + queue::LENGTH] = n;
+        ask(maker, &changed.picture);
+    }
 }
 
 /// Lent lengths from nothing to a little more than the tables, with registers of every count.
@@ -234,7 +318,7 @@ pub fn change_somewhere(random: &mut Random, world: &mut World) {
         6 => NOBODY,
         7 => elsewhere,
         8 => random.one_of(&[1, 2, 3, 4, 127, 128, 8_191, 8_192, 32_767, 32_768, 0x1_0000, 0xFFFF]),
-        _ => random.next(),
+        _ => random.longword(),
     };
 }
 
@@ -279,7 +363,7 @@ fn try_to_break(random: &mut Random, rule: Rule) -> Option<Vec<u32>> {
     let job = one_of(random, &world.jobs()[1..]);
     let channel = one_of(random, &world.channels());
     let queue = one_of(random, &world.blocks_of(block::QUEUE)).map(|at| at + block::HEADER);
-    let big = random.next() | 0x100;
+    let big = random.longword() | 0x100;
     let live = random.one_of(&world.jobs());
     match rule {
         Rule::PictureMultiple | Rule::HeapMultiple => return None,
@@ -308,7 +392,9 @@ fn try_to_break(random: &mut Random, rule: Rule) -> Option<Vec<u32>> {
             world.picture[job_record(0) + job::BASE] = random.one_of(&[1, 16, 4 * HEAP as u32, big, NOBODY]);
         }
         Rule::Priority => *world.job_field(live, job::PRIORITY) = random.one_of(&[128, 255, 256, big, NOBODY]),
-        Rule::Accumulated => *world.job_field(live, job::ACCUMULATED) = random.one_of(&[8_192, 8_193, big | 0x2000, NOBODY]),
+        Rule::Accumulated => {
+            *world.job_field(live, job::ACCUMULATED) = random.one_of(&[8_192, 8_193, big | 0x2000, NOBODY])
+        }
         Rule::Timeout => {
             *world.job_field(live, job::TIMEOUT) =
                 random.one_of(&[32_768, 65_535, 0x8000_0000, 0xFFFF_FFFE, 0xFFFF_0000, big | 0x8000]);
@@ -421,7 +507,8 @@ fn try_to_break(random: &mut Random, rule: Rule) -> Option<Vec<u32>> {
             let headers = if random.once_in(2) { world.heap_headers() } else { world.transient_headers() };
             let last = *headers.last()?;
             let length = world.picture[last];
-            world.picture[last] = random.one_of(&[length + 16, length + 32, length + 0x1_0000, 0xFFFF_FFF0, 0x8000_0000]);
+            world.picture[last] =
+                random.one_of(&[length + 16, length + 32, length + 0x1_0000, 0xFFFF_FFF0, 0x8000_0000]);
         }
         Rule::FreeTouch => {
             let free = random.one_of(&world.blocks_of(block::FREE));
@@ -460,8 +547,13 @@ fn try_to_break(random: &mut Random, rule: Rule) -> Option<Vec<u32>> {
                 add_job(&mut world, owner, base)?;
             } else {
                 let header = 4 * random.one_of(&world.blocks_of(block::FREE)) as u32;
-                let base = random.one_of(&[0, 1, 16, big, NOBODY, header, header + 16, header + 1]);
-                add_job(&mut world, random.one_of(&[live, NOBODY]), base)?;
+                let base = random.one_of(&[0, 1, 16, big, NOBODY, header, header + 16, header + 16, header + 1]);
+                let owner = random.one_of(&[live, NOBODY]);
+                if base == header + 16 {
+                    // What looks like a header stands in room, and is none.
+                    write_header_in_room(&mut world, base, [32, block::JOB, owner, 0])?;
+                }
+                add_job(&mut world, owner, base)?;
             }
         }
         Rule::BlockJob => {
@@ -487,7 +579,11 @@ fn try_to_break(random: &mut Random, rule: Rule) -> Option<Vec<u32>> {
                 add_channel(&mut world, owner, base)?;
             } else {
                 let header = 4 * random.one_of(&world.blocks_of(block::FREE)) as u32;
-                let base = random.one_of(&[0, 1, 16, big, NOBODY, header, header + 16, header + 1]);
+                let base = random.one_of(&[0, 1, 16, big, NOBODY, header, header + 16, header + 16, header + 1]);
+                if base == header + 16 {
+                    write_header_in_room(&mut world, base, [48, block::QUEUE, live, 0])?;
+                    write_header_in_room(&mut world, base + 16, [9, 0, 0, 0])?;
+                }
                 add_channel(&mut world, live, base)?;
             }
         }
@@ -509,7 +605,12 @@ fn try_to_break(random: &mut Random, rule: Rule) -> Option<Vec<u32>> {
         Rule::JobOwner => {
             let k = position(job?);
             let smaller = tag(job?) - 1;
-            let owner = random.one_of(&[number(smaller, 32), number(smaller, 0xFFFF), number(0, 1), number(smaller, big as usize % 32)]);
+            let owner = random.one_of(&[
+                number(smaller, 32),
+                number(smaller, 0xFFFF),
+                number(0, 1),
+                number(smaller, big as usize % 32),
+            ]);
             set_job_owner(&mut world, k, owner);
         }
         Rule::ChannelOwner => {
@@ -536,15 +637,19 @@ fn try_to_break(random: &mut Random, rule: Rule) -> Option<Vec<u32>> {
             let last = world.picture[LAST_CHANNEL_TAG];
             world.picture[LAST_CHANNEL_TAG] = random.between(0, last);
         }
-        Rule::LastJobTag => world.picture[LAST_JOB_TAG] = random.one_of(&[32_768, 65_535, 65_536, big | 0x8000, NOBODY]),
+        Rule::LastJobTag => {
+            world.picture[LAST_JOB_TAG] = random.one_of(&[32_768, 65_535, 65_536, big | 0x8000, NOBODY])
+        }
         Rule::LastChannelTag => {
             world.picture[LAST_CHANNEL_TAG] = random.one_of(&[32_768, 65_535, 65_536, big | 0x8000, NOBODY]);
         }
         Rule::Current => {
-            world.picture[CURRENT] = random.one_of(&[live, live + 0x1_0000, 32, 0xFFFF, 0xFFFF_FFFE, big, live | 0x8000]);
+            world.picture[CURRENT] =
+                random.one_of(&[live, live + 0x1_0000, 32, 0xFFFF, 0xFFFF_FFFE, big, live | 0x8000]);
         }
         Rule::WaitedFor => {
-            *world.job_field(live, job::WAIT) = random.one_of(&[live, live.wrapping_add(0x1_0000), 31, 32, NOBODY, big]);
+            *world.job_field(live, job::WAIT) =
+                random.one_of(&[live, live.wrapping_add(0x1_0000), 31, 32, NOBODY, big]);
             *world.job_field(live, job::TIMEOUT) = WITHOUT_END as u32;
             *world.job_field(live, job::ACCUMULATED) = 0;
             if world.picture[CURRENT] == live {
@@ -572,13 +677,20 @@ fn one_of<T: Copy>(random: &mut Random, things: &[T]) -> Option<T> {
     (!things.is_empty()).then(|| random.one_of(things))
 }
 
+/// Writes four longwords at an address, where the picture reaches so far.
+fn write_header_in_room(world: &mut World, address: u32, longwords: [u32; 4]) -> Option<()> {
+    let at = (address / 4) as usize;
+    world.picture.get_mut(at..at + 4)?.copy_from_slice(&longwords);
+    Some(())
+}
+
 /// A length in steps of 16 bytes, from 1 to 4.
 fn random_small(big: u32) -> u32 {
     (big >> 8) % 4 + 1
 }
 
 fn dead_owner(random: &mut Random, live: u32) -> u32 {
-    let anything = random.next();
+    let anything = random.longword();
     random.one_of(&[NOBODY, live + 0x1_0000, live | 0x20, 0xFFFF, anything])
 }
 
@@ -646,13 +758,14 @@ fn long_queue(random: &mut Random) -> World {
     let base = (world.picture[channel_record(position(channel)) + channel::BASE] / 4) as usize;
     let before = world.picture[base];
     let rest = base + (before / 4) as usize;
-    let more = 16 * random.between(0, 60);
+    let more = if random.once_in(2) { 0 } else { 16 * random.between(1, 60) };
     let left = world.picture[rest] - more;
     world.picture[rest..rest + block::HEADER].fill(0);
     let rest = rest + (more / 4) as usize;
     world.picture[rest..rest + block::HEADER].copy_from_slice(&[left, 0, 0, 0]);
     world.picture[base] = before + more;
-    world.picture[base + block::HEADER + queue::LENGTH] = before + more - 32 - random.below(16) as u32;
+    world.picture[base + block::HEADER + queue::LENGTH] =
+        before + more - 32 - random.below(if more == 0 { 2 } else { 16 }) as u32;
     world
 }
 

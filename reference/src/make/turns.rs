@@ -24,7 +24,7 @@ pub fn one_more(maker: &mut Maker) {
     world.live(&mut maker.random, steps, LIVELY);
     for job in world.jobs() {
         if maker.random.once_in(3) {
-            *world.job_field(job, job::KEY) = maker.random.next();
+            *world.job_field(job, job::KEY) = maker.random.longword();
         }
         let (priority, timeout) = (*world.job_field(job, job::PRIORITY), *world.job_field(job, job::TIMEOUT));
         if ready(priority, timeout) && maker.random.once_in(2) {

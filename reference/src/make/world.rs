@@ -288,7 +288,7 @@ impl World {
             0 => NOBODY,
             1 => random.one_of(&[0x0000_FFFF, 0x0000_8000, 0x1234_8001, 0x7FFF_FFFF]),
             2 => live.wrapping_add(0x1_0000),
-            3 => random.next(),
+            3 => random.longword(),
             4 => number(random.between(0, self.picture[LAST_JOB_TAG] + 1), random.below(34)),
             _ => live,
         }
@@ -299,7 +299,7 @@ impl World {
         let live = if channels.is_empty() { number(1, 0) } else { random.one_of(&channels) };
         match random.below(16) {
             0 => live.wrapping_add(0x1_0000),
-            1 => random.next(),
+            1 => random.longword(),
             2 => number(random.between(0, self.picture[LAST_CHANNEL_TAG] + 1), random.below(34)),
             3 => random.one_of(&[NOBODY, 0, 0x0000_FFFF, self.picture[CURRENT]]),
             _ => live,
@@ -314,7 +314,7 @@ impl World {
         let room = 4 * header as u32 + block::HEADER_BYTES;
         match random.below(16) {
             0 => room.wrapping_add(random.one_of(&[1, 4, 16, 0xFFFF_FFF0, 0xFFFF_FFFF])),
-            1 => random.next(),
+            1 => random.longword(),
             _ => room,
         }
     }
@@ -337,7 +337,7 @@ impl World {
             1 => name.extend(b"0_x 9".iter().take(random.below(5) + 1)),
             2 => {
                 let place = random.below(name.len());
-                name[place] = random.next() as u8;
+                name[place] = random.longword() as u8;
             }
             _ => {}
         }
@@ -367,7 +367,11 @@ impl World {
         let step = self.step_of_mix(random, mix);
         let mut after = self.clone();
         after.take_step(&step);
-        if after.has_ready_within(LONGEST_SILENCE) { step } else { Step::Tick }
+        if after.has_ready_within(LONGEST_SILENCE) {
+            step
+        } else {
+            Step::Tick
+        }
     }
 
     fn step_of_mix(&self, random: &mut Random, mix: &Mix) -> Step {
@@ -388,7 +392,7 @@ impl World {
         let Some((trap, call)) = act.code() else {
             return if act == Act::Pick { Step::Pick } else { Step::Tick };
         };
-        let mut registers: Registers = std::array::from_fn(|_| random.next());
+        let mut registers: Registers = std::array::from_fn(|_| random.longword());
         registers[D0] = call;
         let mut name = Vec::new();
         match act {
@@ -399,13 +403,13 @@ impl World {
                     _ => self.some_job(random),
                 };
                 registers[D2] = match random.below(20) {
-                    0 => random.next(),
+                    0 => random.longword(),
                     1 => random.between(0, 4 * self.picture.len() as u32),
                     _ => random.between(0, 60),
                 };
                 registers[D3] = match random.below(20) {
                     0 => random.below(4) as u32,
-                    1 => random.next(),
+                    1 => random.longword(),
                     _ => random.between(4, 40),
                 };
             }
@@ -420,12 +424,12 @@ impl World {
                 registers[D1] = self.some_job(random);
                 registers[D3] = registers[D3] & 0xFFFF_0000
                     | match random.below(10) {
-                        0 => random.next() & 0xFFFF,
+                        0 => random.longword() & 0xFFFF,
                         1 => 0,
                         2 | 3 => 0xFFFF,
                         _ => random.between(1, 5),
                     };
-                registers[A1] = if random.once_in(16) { random.next() } else { 0 };
+                registers[A1] = if random.once_in(16) { random.longword() } else { 0 };
             }
             Act::Release => registers[D1] = self.some_job(random),
             Act::Activate => {
@@ -441,7 +445,7 @@ impl World {
                 registers[D2] = registers[D2] & 0xFFFF_FF00 | some_priority(random);
                 registers[D3] = registers[D3] & 0xFFFF_0000
                     | match random.below(12) {
-                        0 => random.next() & 0xFFFF,
+                        0 => random.longword() & 0xFFFF,
                         1..=3 => 0xFFFF,
                         _ => 0,
                     };
@@ -452,7 +456,7 @@ impl World {
             }
             Act::Take => {
                 registers[D1] = match random.below(16) {
-                    0 => random.next(),
+                    0 => random.longword(),
                     1 => random.between(0, 4 * self.picture[HEAP_LENGTH]),
                     _ => random.between(1, 80),
                 };
@@ -466,7 +470,7 @@ impl World {
             Act::Close => registers[A0] = self.some_channel(random),
             Act::Pending | Act::Fetch | Act::Send => {
                 registers[A0] = self.some_channel(random);
-                registers[D3] = if random.once_in(16) { random.next() } else { registers[D3] & 0xFFFF_0000 };
+                registers[D3] = if random.once_in(16) { random.longword() } else { registers[D3] & 0xFFFF_0000 };
             }
         }
         Step::Trap { trap, registers, name }

@@ -1,0 +1,6 @@
+-- Laws of the definitions of specs/.
+pub mod Steps
+pub mod Rows
+pub mod Join
+pub mod Swept
+pub mod Alone

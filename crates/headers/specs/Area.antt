@@ -1,0 +1,37 @@
+-- What document 01 says of the blocks of an area, here the longwords from base up to e.
+use Prim.Native.Nat.{ℕ, _<_, _≤_, _+_}
+use mathlib.Core.Path.{_≡_}
+use mathlib.Core.Bool.{Bool, true, false, cond}
+use mathlib.Core.List.{List}
+use mathlib.Core.Logic.{_⊎_}
+use Rattle.words.specs.Each.{In, total}
+use Rattle.blocks.specs.Header.{size, free, holder, start}
+use Rattle.blocks.specs.Walk.{good, next, starts}
+
+-- "blocks tile each area exactly": each block that the walk meets is whole
+abbrev pub Tiled : List ℕ → ℕ → ℕ → Type 0
+Tiled p base e = (i : ℕ) → In i (starts p base e) → good p i e ≡ true
+
+-- "no two free blocks touch within an area"
+abbrev pub Apart : List ℕ → ℕ → ℕ → Type 0
+Apart p base e = (i : ℕ) → In i (starts p base e) → free p i ≡ true → next p i e < e → free p (next p i e) ≡ false
+
+-- "a free header is length, 0, 0, 0"
+abbrev pub Plain : List ℕ → ℕ → ℕ → Type 0
+Plain p base e = (i : ℕ) → In i (starts p base e) → free p i ≡ true → (holder p i ≡ 0) × (start p i ≡ 0)
+
+-- outside the longwords from a up to b
+abbrev pub Outside : ℕ → ℕ → ℕ → Type 0
+Outside a b k = (k < a) ⊎ (b ≤ k)
+
+-- the bytes of the blocks of an area
+abbrev pub bytes : List ℕ → ℕ → ℕ → ℕ
+bytes p base e = total (size p) (starts p base e)
+
+-- the bytes of a block if it is free
+abbrev pub free-size : List ℕ → ℕ → ℕ
+free-size p i = cond (free p i) (size p i) 0
+
+-- the free bytes of an area
+abbrev pub free-bytes : List ℕ → ℕ → ℕ → ℕ
+free-bytes p base e = total (free-size p) (starts p base e)

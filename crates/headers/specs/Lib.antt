@@ -1,0 +1,3 @@
+-- The definitions that the contracts and the laws cite.
+pub mod Header
+pub mod Area
