@@ -1,22 +1,20 @@
 -- A sweep with no owner in the mask gives back one block.
-use Prim.Native.Nat.{ℕ, _+_, _/_, _%_, _^_, _≤_, _<_}
-use mathlib.Core.Path.{_≡_, refl, sym, ap, _∙_}
-use mathlib.Core.Bool.{Bool, true, false, cond, _&&_, _||_, not}
+use Prim.Native.Nat.{ℕ, _+_, _/_, _%_, _^_}
+use mathlib.Core.Path.{_≡_, refl, _∙_}
+use mathlib.Core.Bool.{Bool, true, false, _&&_}
 use mathlib.Core.List.{List, [], _∷_}
-use mathlib.Core.Logic.{⊎-elim, _⊎_, inl, inr}
-use lib.Dec.{eqb, ltb}
+use mathlib.Core.Logic.{inl, inr}
+use lib.Dec.{ltb}
 use lib.Pow.{pow-pos}
 use native.Mathlib.Nat.{div-eq-of-lt}
 use native.Mathlib.Omega.{arith}
-use borrow.Author.Tests.{eq-eqb, ne-eqb, eqb-true}
 use Rattle.words.specs.Each.{In, total}
 use Rattle.words.specs.Bits.{bit}
-use Rattle.words.proofs.Tests.{false-true}
-use Rattle.words.proofs.Each.{total-same}
 use Rattle.blocks.specs.Header.{size, free, holder}
 use Rattle.blocks.specs.Walk.{starts}
 use Rattle.blocks.proofs.Starts.{Rising, starts-rising, rising-in}
 use Rattle.freeing.specs.Sweep.{named, goes}
+use Rattle.freeing.proofs.Goes.{the-block-at-that-place-goes, a-block-owned-from-outside-stays}
 use Rattle.freeing.proofs.Swept.{given-size, given-bytes}
 
 no-bit : (k : ℕ) → bit 0 k ≡ false
@@ -30,24 +28,11 @@ none-named o = rw (no-bit (o % 65536)) (go (ltb (o % 65536) 32))
     go false = refl
 
 -- of the empty mask only the block at a goes
-pub only-the-block-at-a-goes : (p : List ℕ) (a i : ℕ) → goes p 0 a i ≡ not (free p i) && eqb i a
-unfolding goes
-only-the-block-at-a-goes p a i = rw (none-named (holder p i)) (go (not (free p i)) (eqb i a))
-  where
-    go : (b c : Bool) → b && (c || false) ≡ b && c
-    go true true = refl
-    go true false = refl
-    go false c = refl
-
 pub the-block-at-a-goes : (p : List ℕ) (a : ℕ) → free p a ≡ false → goes p 0 a a ≡ true
-the-block-at-a-goes p a f = only-the-block-at-a-goes p a a ∙ rw (f, eq-eqb a a refl)
+the-block-at-a-goes p a f = the-block-at-that-place-goes p 0 a a f refl
 
 pub no-other-block-goes : (p : List ℕ) (a i : ℕ) → (i ≡ a → ⊥) → goes p 0 a i ≡ false
-no-other-block-goes p a i n = only-the-block-at-a-goes p a i ∙ rw (ne-eqb i a n) (go (not (free p i)))
-  where
-    go : (b : Bool) → b && false ≡ false
-    go true = refl
-    go false = refl
+no-other-block-goes p a i n = a-block-owned-from-outside-stays p 0 a i n (none-named (holder p i))
 
 total-none : (g : ℕ → ℕ) (l : List ℕ) → ((i : ℕ) → In i l → g i ≡ 0) → total g l ≡ 0
 total-none g [] h = refl

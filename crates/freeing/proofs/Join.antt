@@ -1,12 +1,12 @@
 -- A sweep of a row of whole blocks, from a block on to the end: what it leaves.
-use Prim.Native.Nat.{ℕ, zero, suc, _+_, _-_, _*_, _/_, _%_, _≤_, _<_}
-use mathlib.Core.Path.{_≡_, refl, sym, ap, _∙_, subst}
-use mathlib.Core.Bool.{Bool, true, false, cond, _&&_, _||_, not}
+use Prim.Native.Nat.{ℕ, _+_, _-_, _*_, _/_, _%_, _≤_, _<_}
+use mathlib.Core.Path.{_≡_, refl, sym, _∙_}
+use mathlib.Core.Bool.{Bool, true, false, cond, _&&_, _||_}
 use mathlib.Core.List.{List, [], _∷_}
 use mathlib.Core.Logic.{⊎-elim, _⊎_, inl, inr}
 use lib.ListN.{length}
 use lib.Seq.{getD-set-same, getD-set-other}
-use lib.Dec.{eqb, ltb}
+use lib.Dec.{eqb}
 use native.Mathlib.Omega.{arith}
 use borrow.Author.Tests.{eq-eqb, eqb-true}
 use Rattle.words.specs.Words.{word}
@@ -19,9 +19,9 @@ use Rattle.blocks.proofs.Starts.{next-same}
 use Rattle.headers.specs.Header.{header}
 use Rattle.headers.specs.Area.{free-size}
 use Rattle.headers.proofs.Header.{length-header, header-all-zeros, header-zeros}
-use Rattle.freeing.specs.Sweep.{goes, freed, absorbed, run, sweep}
-use Rattle.freeing.proofs.Steps.{From, goes-same, freed-other, length-freed, length-absorbed, absorbed-other, next-freed, sweep-end, sweep-used, sweep-first, sweep-absorb}
-use Rattle.freeing.proofs.Rows.{Whole, Row, Spaced, row-le, spaced-row, spaced-le, row-next, row-starts}
+use Rattle.freeing.specs.Sweep.{goes, freed, absorbed, sweep}
+use Rattle.freeing.proofs.Steps.{From, goes-same, freed-other, length-freed, length-absorbed, absorbed-other, sweep-end, sweep-used, sweep-first, sweep-absorb}
+use Rattle.freeing.proofs.Rows.{Whole, Row, Spaced, row-le, spaced-le, row-next, row-starts}
 
 -- the block at i is free, or it goes
 unfoldable pub spare : List ℕ → ℕ → ℕ → ℕ → Bool

@@ -1,17 +1,15 @@
 -- Whole blocks in a row, and whole blocks in a row of which no two free ones touch.
-use Prim.Native.Nat.{ℕ, zero, suc, _+_, _-_, _*_, _/_, _%_, _≤_, _<_}
-use mathlib.Core.Path.{_≡_, refl, sym, ap, _∙_, subst}
+use Prim.Native.Nat.{ℕ, zero, suc, _+_, _-_, _/_, _%_, _≤_, _<_}
+use mathlib.Core.Path.{_≡_, refl, _∙_, subst}
 use mathlib.Core.Bool.{Bool, true, false, _&&_}
-use mathlib.Core.List.{List, [], _∷_}
-use mathlib.Core.Logic.{⊎-elim, _⊎_, inl, inr}
+use mathlib.Core.List.{List, _∷_}
+use mathlib.Core.Logic.{⊎-elim, inl, inr}
 use native.Mathlib.Omega.{arith}
-use Rattle.words.specs.Words.{word}
 use Rattle.words.specs.Each.{In}
 use Rattle.words.proofs.Tests.{lt-or-ge, false-true}
-use Rattle.blocks.specs.Header.{size, kind, free}
+use Rattle.blocks.specs.Header.{size, free}
 use Rattle.blocks.specs.Walk.{good, next, starts}
-use Rattle.blocks.proofs.Walk.{Good, is-good, good-is, next-good, next-up, starts-more, starts-end}
-use Rattle.blocks.proofs.Starts.{starts-in}
+use Rattle.blocks.proofs.Walk.{is-good, good-is, next-good, next-up, starts-more, starts-end}
 use Rattle.headers.specs.Area.{Tiled, Apart}
 
 -- a whole block
@@ -93,19 +91,3 @@ spaced-apart {p} {g} {e = e} (Spaced.more {i = i} B A S) j m z l = ⊎-elim
     first j y z l =
         let n : next p j e ≡ i + size p i / 4 = rw (y, row-next B (spaced-le S)) in
         rw n (head-used S (rw y at z) (rw n at l))
-
--- an area that is tiled, with no two free blocks touching
-spaced-by : {p : List ℕ} {e i : ℕ} (f : Bool) → Row p e i → Apart p i e → (f ≡ true → i < e → free p i ≡ false) → (g : Bool) × Spaced p g e f i
-spaced-by f (Row.done q) a h = (f, Spaced.done refl q)
-spaced-by {p} {e} f (Row.more {i = i} B S) a h =
-    let P = row-starts B (row-le S) in
-    let N = row-next B (row-le S) in
-    let r = spaced-by (free p i) S (λ j m. a j (rw P (inr m))) (λ z l. rw N at (a i (rw P (inl refl)) z (rw N l))) in
-    (r .0, Spaced.more B (go f h) (r .1))
-  where
-    go : (f : Bool) → (f ≡ true → i < e → free p i ≡ false) → f && free p i ≡ false
-    go true h = let b = B .least in let l = row-le S in h refl (omega arith)
-    go false h = refl
-
-pub tiled-spaced : (p : List ℕ) (base e : ℕ) → base ≤ e → Tiled p base e → Apart p base e → (g : Bool) × Spaced p g e false base
-tiled-spaced p base e l t a = spaced-by false (tiled-row p base e l t) a (λ z. absurd (false-true z))

@@ -1,19 +1,19 @@
 -- A sweep, one block at a time.
-use Prim.Native.Nat.{ℕ, zero, suc, _+_, _-_, _*_, _≤_, _<_}
-use mathlib.Core.Path.{_≡_, refl, sym, ap, _∙_}
+use Prim.Native.Nat.{ℕ, _+_, _-_, _*_, _≤_, _<_}
+use mathlib.Core.Path.{_≡_, refl, sym, _∙_}
 use mathlib.Core.Bool.{Bool, true, false, cond, _&&_}
-use mathlib.Core.List.{List, [], _∷_}
-use mathlib.Core.Logic.{⊎-elim, _⊎_, inl, inr}
-use lib.ListN.{getD, set, length, length-set}
-use lib.Seq.{getD-set-same, getD-set-other, set-getD}
-use lib.Dec.{eqb, ltb}
+use mathlib.Core.List.{List}
+use mathlib.Core.Logic.{⊎-elim, _⊎_, inr}
+use lib.ListN.{length, length-set}
+use lib.Seq.{getD-set-other, set-getD}
+use lib.Dec.{ltb}
 use native.Mathlib.Omega.{arith}
 use borrow.Author.Tests.{ltb-true, lt-ltb, le-ltb}
 use Rattle.words.specs.Words.{word, put}
 use Rattle.blocks.specs.Header.{size, kind, free, holder}
 use Rattle.blocks.specs.Walk.{good, next, starts}
-use Rattle.blocks.proofs.Walk.{Good, is-good, next-good, next-bad, starts-more, starts-end}
-use Rattle.blocks.proofs.Starts.{next-same, starts-same}
+use Rattle.blocks.proofs.Walk.{is-good, next-good, next-bad, starts-more, starts-end}
+use Rattle.blocks.proofs.Starts.{starts-same}
 use Rattle.headers.specs.Header.{header}
 use Rattle.headers.proofs.Header.{length-header, length-either, header-other}
 use Rattle.freeing.specs.Sweep.{goes, freed, absorbed, joined, run, sweep}
@@ -74,9 +74,6 @@ joined-above p e r i k h = go (free p i) (ltb r i) refl
     go false c z = refl
 
 -- what is written at a block stays below the next one
-pub next-freed : (p : List ℕ) (m a i e : ℕ) → next (freed p m a i) i e ≡ next p i e
-next-freed p m a i e = next-same p (freed p m a i) i e (freed-other p m a i i (inl (omega arith)))
-
 step-above : (p : List ℕ) (e m a r i : ℕ) → good p i e ≡ true → From (next p i e) p (joined (freed p m a i) e r i)
 step-above p e m a r i g k h =
     let G = is-good p i e g in

@@ -1,22 +1,22 @@
 -- A sweep of an area that blocks tile: what the area's blocks are then.
-use Prim.Native.Nat.{ℕ, zero, suc, _+_, _-_, _*_, _/_, _%_, _≤_, _<_}
-use mathlib.Core.Path.{_≡_, refl, sym, ap, _∙_, subst}
-use mathlib.Core.Bool.{Bool, true, false, cond, _&&_, _||_, not}
+use Prim.Native.Nat.{ℕ, _+_, _/_, _≤_, _<_}
+use mathlib.Core.Path.{_≡_, refl, sym, ap, _∙_}
+use mathlib.Core.Bool.{Bool, true, false, cond, _&&_, _||_}
 use mathlib.Core.List.{List, [], _∷_}
 use mathlib.Core.Logic.{⊎-elim, _⊎_, inl, inr}
 use lib.ListN.{length}
-use lib.Dec.{eqb}
 use native.Mathlib.Omega.{arith}
 use Rattle.words.specs.Words.{word}
 use Rattle.words.specs.Each.{In, total}
 use Rattle.words.proofs.Tests.{false-true}
 use Rattle.blocks.specs.Header.{size, kind, free, holder, start}
 use Rattle.blocks.specs.Walk.{starts}
-use Rattle.headers.specs.Area.{Tiled, Apart, Plain, Outside, bytes, free-size, free-bytes}
-use Rattle.headers.proofs.Row.{total-sum, blocks-fill-the-area}
+use Rattle.headers.specs.Area.{Tiled, Apart, Blank, Outside, bytes, free-size, free-bytes, used-bytes}
+use Rattle.headers.proofs.Row.{total-sum, blocks-fill-the-area, free-and-used}
 use Rattle.freeing.specs.Sweep.{goes, sweep, swept}
-use Rattle.freeing.proofs.Rows.{Row, tiled-row, spaced-row, row-tiled, spaced-apart}
-use Rattle.freeing.proofs.Join.{spare, spare-size, spare-false, false-spare, heads, absorbs, Rest, sweep-rest}
+use Rattle.freeing.proofs.Goes.{goes-used}
+use Rattle.freeing.proofs.Rows.{tiled-row, spaced-row, row-tiled, spaced-apart}
+use Rattle.freeing.proofs.Join.{spare, spare-size, false-spare, heads, absorbs, Rest, sweep-rest}
 
 -- the bytes of a block if it goes
 abbrev pub given-size : List ℕ → ℕ → ℕ → ℕ → ℕ
@@ -33,7 +33,7 @@ pub record Swept (p q : List ℕ) (base e m a : ℕ) : Type 0 where
   -- blocks tile the area, no two free ones touch, and free headers are length, 0, 0, 0
   pub tiled : Tiled q base e
   pub apart : Apart q base e
-  pub plain : Plain p base e → Plain q base e
+  pub blank : Blank p base e → Blank q base e
   -- the blocks in use are those that were and do not go, each with every longword
   pub stays : (i : ℕ) → In i (starts p base e) → free p i ≡ false → goes p m a i ≡ false → In i (starts q base e)
   pub keeps : (i : ℕ) → In i (starts p base e) → free p i ≡ false → goes p m a i ≡ false → (k : ℕ) → i ≤ k → k < i + size p i / 4 → word q k ≡ word p k
@@ -42,9 +42,10 @@ pub record Swept (p q : List ℕ) (base e m a : ℕ) : Type 0 where
   pub were : (i : ℕ) → In i (starts q base e) → In i (starts p base e)
   pub absorbed : (i : ℕ) → In i (starts p base e) → (In i (starts q base e) → ⊥) → (k : ℕ) → i ≤ k → k < i + 4 → word q k ≡ 0
   pub rooms : (i : ℕ) → In i (starts p base e) → (k : ℕ) → i + 4 ≤ k → k < i + size p i / 4 → word q k ≡ word p k
-  -- the bytes stay the same; those of the blocks that go are free
+  -- the bytes stay the same; those of the blocks that go are no longer in use but free
   pub same-bytes : bytes q base e ≡ bytes p base e
   pub more-free : free-bytes q base e ≡ free-bytes p base e + given-bytes p base e m a
+  pub less-used : used-bytes q base e + given-bytes p base e m a ≡ used-bytes p base e
 
 -- the blocks that start one after joining, and the others
 heads-stay : (s : ℕ → Bool) (f : Bool) (l : List ℕ) (i : ℕ) → In i l → s i ≡ false → In i (heads s f l)
@@ -80,14 +81,6 @@ head-or-absorbed s f (j ∷ l) i h = go (f && s j) h (λ n. head-or-absorbed s (
     go false (inr n) ih = ⊎-elim (λ v. inl (inr v)) inr (ih n)
 
 -- spare bytes are the free ones and those that go
-pub goes-used : (p : List ℕ) (m a i : ℕ) → goes p m a i ≡ true → free p i ≡ false
-unfolding goes
-goes-used p m a i h = go (free p i) _ h
-  where
-    go : (b c : Bool) → not b && c ≡ true → b ≡ false
-    go true c h = absurd (false-true h)
-    go false c h = refl
-
 spare-parts : (p : List ℕ) (m a i : ℕ) → spare-size p m a i ≡ free-size p i + given-size p m a i
 unfolding spare
 spare-parts p m a i = go (free p i) (goes p m a i) refl refl
@@ -106,15 +99,16 @@ sweeping-keeps-the-area p base e m a be le T = record {
   outside = λ k h. ⊎-elim (λ (l : k < base). R .before k l (λ z. omega arith)) (λ (l : e ≤ k). R .above k l) h;
   tiled = tiles;
   apart = spaced-apart (R .row .1);
-  plain = plains;
+  blank = blanks;
   stays = λ i h u g. rw (R .blocks) (heads-stay (spare p m a) false (starts p base e) i h (false-spare p m a i u g));
   keeps = λ i h u g. R .keeps i h (false-spare p m a i u g);
   only = λ i h u. let w = head i h in let v = used i h u in (heads-are (spare p m a) false (starts p base e) i w, v);
   were = λ i h. heads-are (spare p m a) false (starts p base e) i (head i h);
   absorbed = λ i h n. ⊎-elim (λ v. absurd (n (rw (R .blocks) v))) (λ v. R .zeros i v) (head-or-absorbed (spare p m a) false (starts p base e) i h);
   rooms = R .rooms;
-  same-bytes = blocks-fill-the-area q base e be tiles ∙ sym (blocks-fill-the-area p base e be T);
+  same-bytes = sames;
   more-free = frees;
+  less-used = let a = sames in let b = frees in let c = free-and-used p base e in let d = free-and-used q base e in omega arith;
 }
   where
     q : List ℕ
@@ -125,6 +119,9 @@ sweeping-keeps-the-area p base e m a be le T = record {
 
     tiles : Tiled q base e
     tiles = row-tiled (spaced-row (R .row .1))
+
+    sames : bytes q base e ≡ bytes p base e
+    sames = blocks-fill-the-area q base e be tiles ∙ sym (blocks-fill-the-area p base e be T)
 
     frees : free-bytes q base e ≡ free-bytes p base e + given-bytes p base e m a
     frees =
@@ -142,8 +139,8 @@ sweeping-keeps-the-area p base e m a be le T = record {
         go true g z = let v : kind q i ≡ 0 = z ∙ rw g in absurd (false-true (sym u ∙ rw v))
         go false g z = let v : kind q i ≡ kind p i = z ∙ rw g in (rw v at u, g)
 
-    plains : Plain p base e → Plain q base e
-    plains t i h u = go (goes p m a i) refl
+    blanks : Blank p base e → Blank q base e
+    blanks t i h u = go (goes p m a i) refl
       where
         w : In i (heads (spare p m a) false (starts p base e))
         w = head i h

@@ -1,7 +1,7 @@
 -- Document 01: "Freeing merges with free neighbours in the area; an absorbed header becomes four zeros, other old bytes stay."
 -- One sweep gives back all blocks that go: one block, or those of a set of owners.
-use Prim.Native.Nat.{ℕ, _+_, _-_, _*_}
-use mathlib.Core.Bool.{Bool, true, false, _&&_, _||_, not, cond}
+use Prim.Native.Nat.{ℕ, _-_, _*_}
+use mathlib.Core.Bool.{Bool, _&&_, _||_, not, cond}
 use mathlib.Core.List.{List, [], _∷_}
 use lib.Dec.{ltb, eqb}
 use Rattle.words.specs.Words.{put}

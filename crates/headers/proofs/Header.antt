@@ -1,10 +1,10 @@
 -- The longwords of a picture in which a header was written.
-use Prim.Native.Nat.{ℕ, zero, suc, _+_, _≤_, _<_}
-use mathlib.Core.Path.{_≡_, refl, sym, ap, _∙_}
+use Prim.Native.Nat.{ℕ, _+_, _≤_, _<_}
+use mathlib.Core.Path.{_≡_, refl}
 use mathlib.Core.Bool.{Bool, true, false, cond}
 use mathlib.Core.List.{List}
 use mathlib.Core.Logic.{⊎-elim, _⊎_, inl, inr}
-use lib.ListN.{getD, set, length, length-set}
+use lib.ListN.{length, length-set}
 use lib.Seq.{set-out, getD-set-same, getD-set-other}
 use lib.Dec.{eqb}
 use native.Mathlib.Omega.{arith}

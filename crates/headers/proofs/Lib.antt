@@ -2,3 +2,4 @@
 pub mod Header
 pub mod Clear
 pub mod Row
+pub mod Neighbours

@@ -1,18 +1,18 @@
 -- The blocks of an area as a list: parts of it, sums over it, and the walk cut at one of its blocks.
 use Prim.Native.Nat.{ℕ, zero, suc, _+_, _-_, _*_, _/_, _%_, _≤_, _<_}
 use mathlib.Core.Path.{_≡_, refl, sym, ap, _∙_, subst}
-use mathlib.Core.Bool.{Bool, true, false}
+use mathlib.Core.Bool.{Bool, true, false, cond}
 use mathlib.Core.List.{List, [], _∷_, _++_}
 use mathlib.Core.Logic.{⊎-elim, _⊎_, inl, inr}
 use native.Mathlib.Omega.{arith}
 use Rattle.words.specs.Words.{word}
 use Rattle.words.specs.Each.{In, total}
 use Rattle.words.proofs.Tests.{lt-or-ge}
-use Rattle.blocks.specs.Header.{size}
-use Rattle.blocks.specs.Walk.{good, next, starts}
-use Rattle.blocks.proofs.Walk.{Good, is-good, next-good, next-up, starts-end, starts-more}
+use Rattle.blocks.specs.Header.{size, free}
+use Rattle.blocks.specs.Walk.{next, starts}
+use Rattle.blocks.proofs.Walk.{is-good, next-good, next-up, starts-end, starts-more}
 use Rattle.blocks.proofs.Starts.{starts-in, next-same}
-use Rattle.headers.specs.Area.{Tiled, bytes}
+use Rattle.headers.specs.Area.{Tiled, bytes, free-size, used-size, free-bytes, used-bytes}
 
 -- members of two lists, one after the other
 pub in-first : (l m : List ℕ) (j : ℕ) → In j l → In j (l ++ m)
@@ -66,6 +66,14 @@ fill-by (suc k) p i e h l t = ⊎-elim
 
 pub blocks-fill-the-area : (p : List ℕ) (base e : ℕ) → base ≤ e → Tiled p base e → bytes p base e ≡ (e - base) * 4
 blocks-fill-the-area p base e l t = fill-by (e - base) p base e (omega arith) l t
+
+-- a block is free or in use
+pub free-and-used : (p : List ℕ) (base e : ℕ) → bytes p base e ≡ free-bytes p base e + used-bytes p base e
+free-and-used p base e = total-sum (free-size p) (used-size p) (size p) (starts p base e) (λ i m. go (free p i) (size p i))
+  where
+    go : (b : Bool) (n : ℕ) → n ≡ cond b n 0 + cond b 0 n
+    go true n = omega arith
+    go false n = omega arith
 
 -- the walk from base to e, cut at its block at i: the blocks below i stand in every picture that is the same below i
 pub record Parted (p : List ℕ) (base e i : ℕ) : Type 0 where

@@ -1,14 +1,14 @@
 -- The rule for choosing a block: all that placing rests on.
-use Prim.Native.Nat.{ℕ, _+_, _≤_, _<_}
-use mathlib.Core.Path.{_≡_, refl, sym, ap, _∙_}
+use Prim.Native.Nat.{ℕ, _≤_, _<_}
+use mathlib.Core.Path.{_≡_, refl, ap, _∙_}
 use mathlib.Core.Bool.{Bool, true, false, cond, _&&_}
 use mathlib.Core.List.{List, [], _∷_}
 use mathlib.Core.Logic.{⊎-elim, _⊎_, inl, inr}
-use lib.Dec.{leb, eqb}
+use lib.Dec.{leb}
 use native.Mathlib.Omega.{arith}
-use borrow.Author.Tests.{leb-true, leb-false, le-leb, lt-leb}
+use borrow.Author.Tests.{leb-true, leb-false, lt-leb}
 use Rattle.words.specs.Each.{In}
-use Rattle.words.proofs.Tests.{both, false-true, lt-or-ge}
+use Rattle.words.proofs.Tests.{both, false-true}
 use Rattle.blocks.specs.Header.{size, free}
 use Rattle.blocks.specs.Walk.{starts}
 use Rattle.blocks.proofs.Starts.{starts-in}
@@ -20,9 +20,9 @@ pub record Chosen (p : List ℕ) (base e n i : ℕ) : Type 0 where
   pub is-free : free p i ≡ true
   pub enough : n ≤ size p i
 
--- every free block of the area is shorter than n bytes
-abbrev pub Full : List ℕ → ℕ → ℕ → ℕ → Type 0
-Full p base e n = (i : ℕ) → In i (starts p base e) → free p i ≡ true → size p i < n
+-- no free block of the area is long enough for n bytes
+abbrev pub NoRoom : List ℕ → ℕ → ℕ → ℕ → Type 0
+NoRoom p base e n = (i : ℕ) → In i (starts p base e) → free p i ≡ true → size p i < n
 
 first-passes : (f : ℕ → Bool) (e : ℕ) (l : List ℕ) → (first f e l ≡ e) ⊎ (In (first f e l) l × (f (first f e l) ≡ true))
 first-passes f e [] = inl refl
@@ -73,11 +73,11 @@ module _ (p : List ℕ) (base e n : ℕ) where
       let a = starts-in p base e _ (r .0) .1 in omega arith)
       (first-passes (fits p n) e (starts p base e))
 
-  pub none-is-chosen-where-all-are-shorter : Full p base e n → chosen p base e n ≡ e
+  pub none-is-chosen-where-all-are-shorter : NoRoom p base e n → chosen p base e n ≡ e
   unfolding chosen fits
   none-is-chosen-where-all-are-shorter h = first-of-none (fits p n) e (starts p base e) (λ i m. not-fit (free p i) n (size p i) (h i m))
 
-  pub all-are-shorter-where-none-is-chosen : chosen p base e n ≡ e → Full p base e n
+  pub all-are-shorter-where-none-is-chosen : chosen p base e n ≡ e → NoRoom p base e n
   unfolding chosen fits
   all-are-shorter-where-none-is-chosen h i m =
       not-fitting (free p i) n (size p i) (none-passes (fits p n) e (starts p base e) (λ j o. starts-in p base e j o .1) h i m)

@@ -5,3 +5,5 @@ pub mod Answer
 pub mod Longest
 pub mod Written
 pub mod Placed
+pub mod Outcome
+pub mod Example

@@ -1,6 +1,6 @@
 -- The longest free block: no free block is longer, and it is one of them, or there is none.
 use Prim.Native.Nat.{ℕ, _≤_, _<_}
-use mathlib.Core.Path.{_≡_, refl, sym, ap, _∙_}
+use mathlib.Core.Path.{_≡_, refl, sym, _∙_}
 use mathlib.Core.Bool.{Bool, true, false, cond, _&&_}
 use mathlib.Core.List.{List, [], _∷_}
 use mathlib.Core.Logic.{⊎-elim, _⊎_, inl, inr}
@@ -8,11 +8,11 @@ use lib.Dec.{ltb}
 use native.Mathlib.Omega.{arith}
 use borrow.Author.Tests.{ltb-true, ltb-false}
 use Rattle.words.specs.Each.{In}
-use Rattle.words.proofs.Tests.{both, false-true, lt-or-ge}
+use Rattle.words.proofs.Tests.{false-true}
 use Rattle.blocks.specs.Header.{size, free}
 use Rattle.blocks.specs.Walk.{starts}
 use Rattle.placing.specs.Place.{longer, longest-of, longest}
-use Rattle.placing.proofs.Chosen.{Full}
+use Rattle.placing.proofs.Chosen.{NoRoom}
 
 -- one step
 record Step (p : List ℕ) (b i r : ℕ) : Type 0 where
@@ -64,11 +64,11 @@ module _ (p : List ℕ) (base e : ℕ) where
   the-longest-is-a-free-block = longest-is p 0 (starts p base e) .is
 
   -- n bytes are too many exactly where they are more than the longest free block has
-  pub full-above-the-longest : (n : ℕ) → longest p base e < n → Full p base e n
-  full-above-the-longest n l i m f = let c = no-free-block-is-longer i m f in omega arith
+  pub no-room-above-the-longest : (n : ℕ) → longest p base e < n → NoRoom p base e n
+  no-room-above-the-longest n l i m f = let c = no-free-block-is-longer i m f in omega arith
 
-  pub the-longest-is-below-full : (n : ℕ) → 0 < n → Full p base e n → longest p base e < n
-  the-longest-is-below-full n l f = ⊎-elim
+  pub where-there-is-no-room-the-longest-is-shorter : (n : ℕ) → 0 < n → NoRoom p base e n → longest p base e < n
+  where-there-is-no-room-the-longest-is-shorter n l f = ⊎-elim
       (λ (z : longest p base e ≡ 0). omega arith)
       (λ (w : (i : ℕ) × (In i (starts p base e) × ((free p i ≡ true) × (size p i ≡ longest p base e)))). let c = f (w .0) (w .1 .0) (w .1 .1 .0) in omega (arith, w .1 .1 .1))
       the-longest-is-a-free-block

@@ -1,6 +1,6 @@
 -- A block of n bytes placed in an area that blocks tile: what the area's blocks are then.
-use Prim.Native.Nat.{ℕ, zero, suc, _+_, _-_, _*_, _/_, _%_, _≤_, _<_}
-use mathlib.Core.Path.{_≡_, refl, sym, ap, _∙_, subst}
+use Prim.Native.Nat.{ℕ, _+_, _-_, _/_, _%_, _≤_, _<_}
+use mathlib.Core.Path.{_≡_, refl, sym, ap, _∙_}
 use mathlib.Core.Bool.{Bool, true, false, cond}
 use mathlib.Core.List.{List, [], _∷_, _++_}
 use mathlib.Core.Logic.{⊎-elim, _⊎_, inl, inr}
@@ -14,10 +14,10 @@ use Rattle.words.proofs.Tests.{lt-or-ge, false-true}
 use Rattle.words.proofs.Each.{total-same}
 use Rattle.blocks.specs.Header.{size, kind, free, holder, start}
 use Rattle.blocks.specs.Walk.{good, next, starts}
-use Rattle.blocks.proofs.Walk.{Good, good-is, is-good, next-good, next-up, starts-more}
+use Rattle.blocks.proofs.Walk.{good-is, is-good, next-good, next-up, starts-more}
 use Rattle.blocks.proofs.Starts.{starts-in, starts-same, next-same}
-use Rattle.headers.specs.Area.{Tiled, Apart, Plain, Outside, bytes, free-size, free-bytes}
-use Rattle.headers.proofs.Row.{in-first, in-second, in-either, total-parts, Block, block-of, blocks-fill-the-area, Parted, parted-at}
+use Rattle.headers.specs.Area.{Tiled, Apart, Blank, Outside, bytes, free-size, free-bytes, used-bytes}
+use Rattle.headers.proofs.Row.{in-first, in-second, in-either, total-parts, Block, block-of, blocks-fill-the-area, free-and-used, Parted, parted-at}
 use Rattle.placing.specs.Place.{placed}
 use Rattle.placing.proofs.Chosen.{Chosen}
 use Rattle.placing.proofs.Written.{Room, Written, placed-is-written}
@@ -47,10 +47,11 @@ pub record Placed (p q : List ℕ) (base e i n k o s : ℕ) : Type 0 where
   -- what tiles and has no two free neighbours still does
   pub tiled : Tiled q base e
   pub apart : Apart p base e → Apart q base e
-  pub plain : Plain p base e → Plain q base e
-  -- the bytes stay the same, n of them are no longer free
+  pub blank : Blank p base e → Blank q base e
+  -- the bytes stay the same; n of them are no longer free but in use
   pub same-bytes : bytes q base e ≡ bytes p base e
   pub less-free : free-bytes q base e + n ≡ free-bytes p base e
+  pub more-used : used-bytes q base e ≡ used-bytes p base e + n
 
 -- the walk of p around the block at i, which is taken
 module _ (p : List ℕ) (base e i n : ℕ) (T : Tiled p base e) (C : Chosen p base e n i) (units : n % 16 ≡ 0) (least : 16 ≤ n) where
@@ -284,17 +285,16 @@ module _ (p q : List ℕ) (base e i n k o s : ℕ) (T : Tiled p base e) (C : Cho
         (λ v. ⊎-elim (λ (x : (n < size p i) × (j ≡ i + n / 4)). rest-apart A (x .0) j (x .1) l) (λ x. apart-high A j x f l) v)
         y)
         (after j m);
-    plain = λ A j m f. ⊎-elim
-        (λ y. plain-kept A j (low-before j y) (low-other j y) f)
+    blank = λ A j m f. ⊎-elim
+        (λ y. blank-kept A j (low-before j y) (low-other j y) f)
         (λ y. ⊎-elim
         (λ (z : j ≡ i). absurd (false-true (sym new-used ∙ (rw z at f))))
-        (λ v. ⊎-elim (λ (x : (n < size p i) × (j ≡ i + n / 4)). rw (x .1) (W .rest-owner (x .0), W .rest-start (x .0))) (λ x. plain-kept A j (high-before j x) (high-other j x) f) v)
+        (λ v. ⊎-elim (λ (x : (n < size p i) × (j ≡ i + n / 4)). rw (x .1) (W .rest-owner (x .0), W .rest-start (x .0))) (λ x. blank-kept A j (high-before j x) (high-other j x) f) v)
         y)
         (after j m);
-    same-bytes =
-        let b = starts-in p base e i (C .there) in
-        blocks-fill-the-area q base e (omega (arith, b .0, b .1)) tiles ∙ sym (blocks-fill-the-area p base e (omega (arith, b .0, b .1)) T);
+    same-bytes = sames;
     less-free = fewer;
+    more-used = let a = sames in let b = fewer in let c = free-and-used p base e in let d = free-and-used q base e in omega arith;
   }
     where
       tiles : Tiled q base e
@@ -306,11 +306,17 @@ module _ (p q : List ℕ) (base e i n k o s : ℕ) (T : Tiled p base e) (C : Cho
           y)
           (after j m)
 
+      sames : bytes q base e ≡ bytes p base e
+      sames =
+          let b = starts-in p base e i (C .there) in
+          let l : base ≤ e = omega (arith, b .0, b .1) in
+          blocks-fill-the-area q base e l tiles ∙ sym (blocks-fill-the-area p base e l T)
+
       rest-apart : Apart p base e → n < size p i → (j : ℕ) → j ≡ i + n / 4 → next q j e < e → free q (next q j e) ≡ false
       rest-apart A x j z l = rw z (apart-rest A x (rw z at l))
 
-      plain-kept : Plain p base e → (j : ℕ) → In j (starts p base e) → (j ≡ i → ⊥) → free q j ≡ true → (holder q j ≡ 0) × (start q j ≡ 0)
-      plain-kept A j d x f =
+      blank-kept : Blank p base e → (j : ℕ) → In j (starts p base e) → (j ≡ i → ⊥) → free q j ≡ true → (holder q j ≡ 0) × (start q j ≡ 0)
+      blank-kept A j d x f =
           let y = A j d (sym (kept-free j d x) ∙ f) in
           (kept-header j d x 2 (omega arith) ∙ y .0, kept-header j d x 3 (omega arith) ∙ y .1)
 

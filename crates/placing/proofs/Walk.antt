@@ -1,8 +1,8 @@
 -- The walks of specs/Place.antt, one step at a time.
 use Prim.Native.Nat.{ℕ, _+_, _-_, _/_, _≤_, _<_}
-use mathlib.Core.Path.{_≡_, refl}
+use mathlib.Core.Path.{_≡_}
 use mathlib.Core.Bool.{Bool, true, false}
-use mathlib.Core.List.{List, [], _∷_}
+use mathlib.Core.List.{List}
 use native.Mathlib.Omega.{arith}
 use Rattle.blocks.specs.Walk.{next, starts}
 use Rattle.blocks.proofs.Walk.{starts-more, starts-end}

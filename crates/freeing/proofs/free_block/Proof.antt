@@ -1,5 +1,4 @@
 use Rattle.freeing.specs.Sweep.{freed}
-use mathlib.Core.Path.{_∙_}
 use borrow.Author.Needs.{needs}
 use Rattle.freeing.proofs.free_block.Statement.{statement}
 use Rattle.freeing.proofs.free_block.Tie as tie
@@ -31,7 +30,7 @@ unfolding freed
 returns c = let h = c .before .before in
     let w = h .before .before in
     let t = w .before .before in
-    h .put-header .ensures ∙ rw (w .word .ensures, ← t .before .is-going .ensures, t .if1 .taken)
+    rw (h .put-header .ensures, w .word .ensures, ← t .before .is-going .ensures, t .if1 .taken)
 
 -- src/lib.rt:35:1
 same-length-2 : tie.Need-same-length-2

@@ -6,7 +6,6 @@ use lib.ListN.{length}
 use Prim.Native.Nat.{_-_}
 use mathlib.Core.Path.{_≡_, refl, sym, ap, _∙_}
 use borrow.Author.Needs.{needs}
-use native.Mathlib.Omega.{arith}
 use Rattle.freeing.proofs.sweep.Statement.{statement}
 use Rattle.freeing.proofs.sweep.Tie as tie
 use Rattle.freeing.proofs.sweep.Reads as reads

@@ -1,4 +1,3 @@
-use mathlib.Core.Path.{sym, _∙_}
 use Rattle.placing.specs.Place.{longer}
 use borrow.Author.Needs.{needs}
 use Rattle.placing.proofs.longer_of.Statement.{statement}

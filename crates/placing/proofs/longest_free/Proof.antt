@@ -5,7 +5,6 @@ use Rattle.blocks.specs.Walk.{starts}
 use Prim.Native.Nat.{_-_}
 use mathlib.Core.Path.{_≡_, refl, sym, _∙_}
 use borrow.Author.Needs.{needs}
-use native.Mathlib.Omega.{arith}
 use Rattle.placing.proofs.longest_free.Statement.{statement}
 use Rattle.placing.proofs.longest_free.Tie as tie
 use Rattle.placing.proofs.longest_free.Reads as reads

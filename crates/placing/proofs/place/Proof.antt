@@ -2,8 +2,7 @@ use native.Mathlib.Omega.{arith}
 use Rattle.placing.proofs.Chosen.{chosen-is-free-and-enough}
 use Rattle.placing.specs.Place.{answer, after, chosen}
 use borrow.Author.Tests.{lt-ltb, le-ltb}
-use mathlib.Core.Path.{_≡_, sym, _∙_}
-use Prim.Native.Nat.{_<_, _≤_}
+use Prim.Native.Nat.{_<_}
 use borrow.Author.Needs.{needs}
 use Rattle.placing.proofs.place.Statement.{statement}
 use Rattle.placing.proofs.place.Tie as tie

@@ -1,0 +1,3 @@
+-- The law of turns.
+pub mod Turns
+pub mod Law

@@ -1,0 +1,4 @@
+-- Laws of the definitions of specs/.
+pub mod Ends
+pub mod Released
+pub mod Merged

@@ -1,0 +1,1 @@
+// Giving one block back, in the words of document 01: laws without functions.

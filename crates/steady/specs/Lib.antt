@@ -1,0 +1,1 @@
+-- What stays sound while only the turns of jobs change stands in proofs/: this crate has laws only.

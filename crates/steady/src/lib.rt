@@ -1,0 +1,1 @@
+// What stays sound while only the turns of jobs change: laws only.

@@ -1,0 +1,1 @@
+-- This crate has laws only.

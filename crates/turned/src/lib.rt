@@ -1,0 +1,1 @@
+// What pick and tick keep: laws only.

@@ -1,0 +1,89 @@
+use Prim.Native.Nat.{ℕ, _-_, _≤_}
+use lib.ListN.{length, length-set}
+use mathlib.Core.Path.{_≡_, refl, _∙_, ap}
+use mathlib.Core.List.{List}
+use Rattle.picture.specs.declared.Table.the-variants.{Jobs}
+use Rattle.picture.specs.Records.{timeout}
+use Rattle.picture.specs.Layout.{positions}
+use Rattle.turns.specs.Fields.{timeout-field, set-each}
+use Rattle.turns.specs.Tick.{fallen, ticked}
+use Rattle.turns.proofs.Fields.{set-each-none, set-each-next, later-record-stays}
+use borrow.Author.Needs.{needs}
+use native.Mathlib.Omega.{arith}
+use Rattle.turns.proofs.tick_frame.Statement.{statement}
+use Rattle.turns.proofs.tick_frame.Tie as tie
+use Rattle.turns.proofs.tick_frame.Reads as reads
+use Rattle.turns.proofs.tick_frame.Lts as lts
+use Rattle.picture.proofs.field_of.Reads as field-of-reads
+use Rattle.turns.proofs.fallen.Reads as fallen-reads
+use Rattle.turns.proofs.set_field.Reads as set-field-reads
+
+abbrev Inv-loop : tie.InvT-loop
+Inv-loop p₀ k₀ p k = (k ≤ positions Jobs) × (length p ≡ length p₀) × (p ≡ set-each p₀ timeout-field (λ (i : ℕ). fallen (timeout p₀ i)) k)
+
+abbrev μ-loop : tie.MeasureT-loop
+μ-loop p₀ k₀ p k = positions Jobs - k
+
+-- src/lib.rt:153:5
+loop-holds : tie.Need-loop-holds Inv-loop μ-loop
+loop-holds c = (omega arith, refl, set-each-none (c .before .args .p .now) timeout-field (λ (i : ℕ). fallen (timeout (c .before .args .p .now) i)))
+
+-- src/lib.rt:154:13
+field-of-requires : tie.Need-field-of-requires Inv-loop μ-loop
+field-of-requires c κs = search needs
+
+-- src/lib.rt:155:34
+fallen-requires : tie.Need-fallen-requires Inv-loop μ-loop
+fallen-requires c κs = search needs
+
+-- src/lib.rt:155:9
+set-field-requires : tie.Need-set-field-requires Inv-loop μ-loop
+set-field-requires c κs = search needs
+
+-- src/lib.rt:153:9
+add-k : tie.Need-add-k Inv-loop μ-loop
+add-k c = search needs
+
+-- src/lib.rt:153:5
+loop-less : tie.Need-loop-less Inv-loop μ-loop
+loop-less c = search needs
+
+-- src/lib.rt:153:5
+loop-again : tie.Need-loop-again Inv-loop μ-loop
+loop-again c =
+    let s = c .before .before in
+    let f = s .before in
+    let v = f .before .before in
+    let t = v .before .before in
+    let d = t .before .loop in
+    let p = t .before .before .before .args .p .now in
+    let same = ap (λ (x : List ℕ). timeout x (d .k)) (d .inv .2) ∙ later-record-stays p timeout-field (λ (i : ℕ). fallen (timeout p i)) (omega arith) (d .k) (d .k) timeout-field (omega arith) (omega arith) in
+    (omega arith, rw (s .set-field .ensures) (simp length-set (d .inv .1)), s .set-field .ensures ∙ set-each-next p timeout-field (λ (i : ℕ). fallen (timeout p i)) (d .p) (d .k) (f .fallen .result) (d .inv .2) (f .fallen .ensures ∙ ap fallen (v .field-of .ensures ∙ same)))
+
+-- src/lib.rt:150:1
+same-length : tie.Need-same-length Inv-loop μ-loop
+same-length c = search needs
+
+-- src/lib.rt:150:1
+returns : tie.Need-returns Inv-loop μ-loop
+unfolding ticked
+returns c =
+    let p = c .before .before .before .args .p .now in
+    let e : c .before .loop .k ≡ positions Jobs = omega arith in
+    c .before .loop .inv .2 ∙ ap (set-each p timeout-field (λ (i : ℕ). fallen (timeout p i))) e
+
+pub tick-frame-spec : {M : Type 1} → statement M
+tick-frame-spec =
+    tie.close
+    (tie.spec
+    Inv-loop
+    μ-loop
+    loop-holds
+    field-of-requires
+    fallen-requires
+    set-field-requires
+    add-k
+    loop-less
+    loop-again
+    same-length
+    returns)

@@ -1,0 +1,74 @@
+-- Document 01, "Desk bench examples": "Positions 0, 1, 2 ready at 32, 64, 127, all accumulated 0: picks 0, 2, 1, 2, 0, 1, 2, 0", whose picture is
+-- set up by hand. And a full house, in which a job waits as long as demand 3 lets it.
+use Prim.Native.Nat.{ℕ, zero, suc, _+_, _-_, _*_, _/_, _^_}
+use mathlib.Core.Path.{_≡_}
+use mathlib.Core.List.{List, [], _∷_, _++_, List·Memᴰ}
+use lib.ListN.{length, replicate}
+use Rattle.picture.specs.Layout.{nobody, positions, width, heap-base}
+use Rattle.picture.specs.Numbers.{number-of}
+use Rattle.picture.specs.declared.Table.the-variants.{Jobs, Channels}
+use Rattle.fairness.specs.Turns.{greatest-priority}
+use Rattle.turns.specs.Pick.{chosen-job, picked, picked-number}
+use Rattle.turns.specs.Stretch.{Stretch}
+
+-- the picture's size and its heap, as in the session's first picture
+abbrev pub bench-size : ℕ
+bench-size = 1024
+
+abbrev pub bench-heap : ℕ
+bench-heap = 256
+
+abbrev pub bench-transient : ℕ
+bench-transient = bench-size - heap-base - bench-heap
+
+-- the record of a job at position k, made by job 0 as the k-th, with a block of 32 bytes, ready at priority g
+abbrev pub record-of : ℕ → ℕ → List ℕ
+record-of k g = number-of k k ∷ 0 ∷ (4 * (heap-base + bench-heap) + 32 * (k - 1)) ∷ g ∷ 0 ∷ 0 ∷ 0 ∷ 0 ∷ []
+
+-- the records of jobs at these priorities from position k on, and their blocks
+abbrev pub records : ℕ → List ℕ → List ℕ
+records k [] = []
+records k (g ∷ l) = record-of k g ++ records (k + 1) l
+
+abbrev pub job-blocks : List ℕ → List ℕ
+job-blocks [] = []
+job-blocks (g ∷ l) = 32 ∷ 3 ∷ 0 ∷ 0 ∷ 0 ∷ 0 ∷ 0 ∷ 0 ∷ job-blocks l
+
+-- A sound picture: the fresh one, with job 0 at priority g, after job 0 made one more job for each of these priorities.
+-- In order: longwords 0 to 7, the job records, the channel records, the heap (one free block), the transient area (job blocks, one free block).
+unfoldable pub set-up : ℕ → List ℕ → List ℕ
+set-up g l =
+    (bench-size ∷ 0 ∷ length l ∷ 0 ∷ bench-heap ∷ (2 ^ (1 + length l) - 1) ∷ 0 ∷ 0 ∷ [])
+    ++ ((0 ∷ nobody ∷ 0 ∷ g ∷ 0 ∷ 0 ∷ 0 ∷ 0 ∷ [])
+    ++ (records 1 l
+    ++ (replicate (width Jobs * (positions Jobs - 1 - length l)) 0
+    ++ (replicate (width Channels * positions Channels) 0
+    ++ ((4 * bench-heap ∷ replicate (bench-heap - 1) 0)
+    ++ (job-blocks l ++ ((4 * bench-transient - 32 * length l) ∷ replicate (bench-transient - 1 - 8 * length l) 0)))))))
+
+-- n picks in a row: the positions picked, and the numbers answered
+unfoldable pub picks : ℕ → List ℕ → List ℕ
+picks zero p = []
+picks (suc n) p = chosen-job p ∷ picks n (picked p)
+
+unfoldable pub answers : ℕ → List ℕ → List ℕ
+answers zero p = []
+answers (suc n) p = picked-number p ∷ answers n (picked p)
+
+-- positions 0, 1, 2 ready at 32, 64, 127
+abbrev pub DeskBench : Type 0
+DeskBench = picks 8 (set-up 32 (64 ∷ 127 ∷ [])) ≡ 0 ∷ 2 ∷ 1 ∷ 2 ∷ 0 ∷ 1 ∷ 2 ∷ 0 ∷ []
+
+-- every position taken: the last job ready at priority g, all others at the greatest
+abbrev pub full-house : ℕ → List ℕ
+full-house g = set-up greatest-priority (replicate (positions Jobs - 2) greatest-priority ++ (g ∷ []))
+
+abbrev pub last-position : ℕ
+last-position = positions Jobs - 1
+
+abbrev pub last-number : ℕ
+last-number = number-of last-position last-position
+
+-- the last job of a full house, ready all through, is in none of 1 + floor(3810 / g) picks in a row: demand 3's figure is the least
+abbrev pub WaitsAsLong : ℕ → Type 0
+WaitsAsLong g = Stretch last-number last-position g (full-house g) (answers (1 + 3810 / g) (full-house g)) × (List·Memᴰ last-number (answers (1 + 3810 / g) (full-house g)) → ⊥)

@@ -1,0 +1,171 @@
+// Turns: the pick, which gives one job its turn, and the tick of a frame. Both take any contents.
+use picture::ACCUMULATED;
+use picture::CURRENT_WORD;
+use picture::DELIVERED;
+use picture::DONE;
+use picture::JOBS;
+use picture::NOBODY;
+use picture::NUMBER;
+use picture::PRIORITY;
+use picture::TIMEOUT;
+use picture::Table;
+use picture::field_of;
+use picture::is_ready;
+use picture::slot_of;
+use words::put;
+ghost use mathlib.Core.Path.{_≡_};
+ghost use Prim.Native.Nat.{_+_, _<_, _≤_, min};
+ghost use mir.Syntax.{w32};
+ghost use mir.Val.{toZ};
+ghost use Rattle.words.specs.Words.{put};
+ghost use Rattle.picture.specs.Layout.{positions, width};
+ghost use Rattle.picture.specs.Records.{slot};
+ghost use Rattle.picture.specs.declared.Table.the-variants.{Jobs};
+ghost use Rattle.fairness.specs.Turns.{hold};
+ghost use Rattle.turns.specs.Fields.{set-each as setEach, accumulated-field as accumulatedField};
+ghost use Rattle.turns.specs.Pick.{preferred, chosen-job as chosenJob, accumulated-after as accumulatedAfter, picked, answer};
+ghost use Rattle.turns.specs.Tick.{fallen, ticked};
+
+// Accumulated is held here.
+pub const HOLD: u32 = 8191;
+
+// Priorities run to this one.
+pub const GREATEST_PRIORITY: u32 = 127;
+
+// From here on a longword read as signed is negative.
+const FIRST_NEGATIVE: u32 = 0x8000_0000;
+
+// What a pick answers: the number of the job picked, and its key to deliver.
+pub struct Picked {
+    pub number: u32,
+    pub key: i32,
+}
+
+// A longword read as signed.
+fn signed(longword: u32) -> i32
+    ensures { λ r. ⌜ r ≡ toZ w32 longword ⌝ }
+{
+    if longword < FIRST_NEGATIVE {
+        longword as i32
+    } else {
+        !((!longword) as i32)
+    }
+}
+
+// Stores v as field f of the record of the job at position k.
+fn set_field(p: &mut [u32], k: usize, f: usize, v: u32)
+    requires { ⌜ (k < positions Jobs) × (f < width Jobs) ⌝ }
+    ensures { λ _. ⌜ now (p .exit) ≡ put (now (p .entry)) (slot Jobs k + f) v ⌝ }
+{
+    put(p, slot_of(Table::Jobs, k) + f, v);
+}
+
+// The job at m, or the one at position k where that is ready and has accumulated more.
+fn preferred(p: &[u32], m: usize, k: usize) -> usize
+    requires { ⌜ (k < positions Jobs) × (m ≤ positions Jobs) ⌝ }
+    ensures { λ r. ⌜ r ≡ preferred (now (p .entry)) m k ⌝ }
+{
+    if !is_ready(p, k) {
+        return m;
+    }
+    if m == JOBS {
+        return k;
+    }
+    if field_of(p, Table::Jobs, m, ACCUMULATED) < field_of(p, Table::Jobs, k, ACCUMULATED) {
+        return k;
+    }
+    m
+}
+
+// The position of the job that the pick takes, the number of positions for nobody.
+pub fn chosen_job(p: &[u32]) -> usize
+    ensures { λ r. ⌜ (r ≡ chosenJob (now (p .entry))) × (r ≤ positions Jobs) ⌝ }
+{
+    let mut m = JOBS;
+    for k in 0..JOBS {
+        m = preferred(p, m, k);
+    }
+    m
+}
+
+// The priority on top of the accumulated, held.
+fn gained(accumulated: u32, priority: u32) -> u32
+    ensures { λ r. ⌜ r ≡ min hold (accumulated + priority) ⌝ }
+{
+    if HOLD <= accumulated {
+        return HOLD;
+    }
+    if HOLD - accumulated <= priority {
+        return HOLD;
+    }
+    accumulated + priority
+}
+
+// What position k has accumulated once the job at m was picked.
+fn accumulated_after(p: &[u32], m: usize, k: usize) -> u32
+    requires { ⌜ k < positions Jobs ⌝ }
+    ensures { λ r. ⌜ r ≡ accumulatedAfter (now (p .entry)) m k ⌝ }
+{
+    if k == m {
+        return 0;
+    }
+    let accumulated = field_of(p, Table::Jobs, k, ACCUMULATED);
+    if !is_ready(p, k) {
+        return accumulated;
+    }
+    gained(accumulated, field_of(p, Table::Jobs, k, PRIORITY))
+}
+
+// Every ready job but the one at m gains, and m's accumulated is 0.
+fn give_gains(p: &mut [u32], m: usize)
+    ensures { λ _. ⌜ now (p .exit) ≡ setEach (now (p .entry)) accumulatedField (accumulatedAfter (now (p .entry)) m) (positions Jobs) ⌝ }
+{
+    for k in 0..JOBS {
+        let v = accumulated_after(p, m, k);
+        set_field(p, k, ACCUMULATED, v);
+    }
+}
+
+// The pick.
+pub fn pick_turn(p: &mut [u32]) -> Picked
+    ensures { λ r. ⌜ now (p .exit) ≡ picked (now (p .entry)) ⌝ }
+    ensures { λ r. ⌜ r ≡ answer (now (p .entry)) ⌝ }
+{
+    let m = chosen_job(p);
+    if m == JOBS {
+        put(p, CURRENT_WORD, NOBODY);
+        return Picked {
+            number: NOBODY,
+            key: DONE,
+        };
+    }
+    let number = field_of(p, Table::Jobs, m, NUMBER);
+    let key = signed(field_of(p, Table::Jobs, m, DELIVERED));
+    give_gains(p, m);
+    set_field(p, m, DELIVERED, 0);
+    put(p, CURRENT_WORD, number);
+    Picked { number, key }
+}
+
+// A timeout after a frame: a positive one falls by 1.
+fn fallen(timeout: u32) -> u32
+    ensures { λ r. ⌜ r ≡ fallen timeout ⌝ }
+{
+    if timeout < 1 {
+        return timeout;
+    }
+    if FIRST_NEGATIVE <= timeout {
+        return timeout;
+    }
+    timeout - 1
+}
+
+// The tick of a frame.
+pub fn tick_frame(p: &mut [u32])
+    ensures { λ _. ⌜ now (p .exit) ≡ ticked (now (p .entry)) ⌝ }
+{
+    for k in 0..JOBS {
+        let timeout = field_of(p, Table::Jobs, k, TIMEOUT);
+        set_field(p, k, TIMEOUT, fallen(timeout));
+    }
+}
