@@ -101,6 +101,16 @@ module _ (p q : List ℕ) (s : Steady p q) where
   pub steady-ages : (t : Table) → Ages p q t
   steady-ages t = ages-same p q t (last t) (mask t) (λ k l. steady-field t k 0 l (omega arith))
 
+  -- a job whose wait and timeout are the same waits as well as it did
+  pub waits-kept : (k : ℕ) → k < positions Jobs → waited-for q k ≡ waited-for p k → timeout q k ≡ timeout p k → (waited-for p k ≡ 0) ⊎ Waits p k → (waited-for q k ≡ 0) ⊎ Waits q k
+  waits-kept k l w t = ⊎-elim
+      (λ e. inl (w ∙ e))
+      (λ (x : Waits p k). inr (record {
+        alive = rw w (lives (waited-for p k) (x .alive));
+        other = λ e. x .other (sym w ∙ e ∙ s .fields k 0 l (omega arith));
+        forever = t ∙ x .forever;
+      }))
+
   -- a record that is the same is as fine as it was
   pub alike-turning : (k : ℕ) → k < positions Jobs → Alike p q k → Turning p k → Turning q k
   unfolding ready
@@ -108,16 +118,9 @@ module _ (p q : List ℕ) (s : Steady p q) where
     urgent = rw (a 3 (omega arith)) (T .urgent);
     gained = rw (a 4 (omega arith)) (T .gained);
     frames = rw (a 5 (omega arith)) (T .frames);
-    waits = ⊎-elim (λ e. inl (a 6 (omega arith) ∙ e)) (λ w. inr (waiting w)) (T .waits);
+    waits = waits-kept k l (a 6 (omega arith)) (a 5 (omega arith)) (T .waits);
     idle = rw (a 3 (omega arith), a 4 (omega arith), a 5 (omega arith)) (T .idle);
   }
-    where
-      waiting : Waits p k → Waits q k
-      waiting w = record {
-        alive = rw (a 6 (omega arith)) (lives (waited-for p k) (w .alive));
-        other = λ e. w .other (sym (a 6 (omega arith)) ∙ e ∙ s .fields k 0 l (omega arith));
-        forever = a 5 (omega arith) ∙ w .forever;
-      }
 
   module _ (S : Sound p) where
     sizes : Sizes q
@@ -198,12 +201,13 @@ module _ (p q : List ℕ) (s : Steady p q) where
       current = L .current;
     }
 
-    turning : (k : ℕ) → k < positions Jobs → Turning p k
-    turning k l = let J = S .jobs in record { urgent = J .urgent k l; gained = J .gained k l; frames = J .frames k l; waits = J .waits k l; idle = J .idle k l }
+    -- what soundness says of those fields
+    pub sound-turning : (k : ℕ) → k < positions Jobs → Turning p k
+    sound-turning k l = let J = S .jobs in record { urgent = J .urgent k l; gained = J .gained k l; frames = J .frames k l; waits = J .waits k l; idle = J .idle k l }
 
     -- sound again where each record is the same or fine
     pub steady-sound-by : ((k : ℕ) → k < positions Jobs → Alike p q k ⊎ Turning q k) → Current q → Sound q
-    steady-sound-by h c = steady-sound (record { each = λ k l. ⊎-elim (λ a. alike-turning k l a (turning k l)) (λ t. t) (h k l); current = c })
+    steady-sound-by h c = steady-sound (record { each = λ k l. ⊎-elim (λ a. alike-turning k l a (sound-turning k l)) (λ t. t) (h k l); current = c })
 
 -- nothing changes; two changes in a row
 pub steady-still : (p : List ℕ) → Steady p p

@@ -1,0 +1,87 @@
+use Rattle.picture.specs.declared.Area.the-variants.{Heap}
+use Rattle.rooms.proofs.Sizes.{areas-lie-in-a-sound-picture}
+use mathlib.Core.Path.{_≡_, sym, ap, _∙_, subst}
+use borrow.Author.Tests.{not-true, not-false}
+use Rattle.words.specs.Words.{word}
+use Rattle.calls.proofs.Outcome.{meets-refuse, meets-succeed}
+use Rattle.picture.specs.Numbers.{position}
+use Rattle.channels.specs.Effects.{queue-of}
+use Rattle.channels.proofs.Found.{Named, channel-found, channel-dead, Held, live-queue}
+use Rattle.channels.specs.Calls.{close-channel}
+use borrow.Author.Needs.{needs}
+use Rattle.channels.proofs.close_channel.Statement.{statement}
+use Rattle.channels.proofs.close_channel.Tie as tie
+use Rattle.channels.proofs.close_channel.Reads as reads
+use Rattle.channels.proofs.close_channel.Lts as lts
+use Rattle.channels.proofs.remove_channel.Reads as remove-channel-reads
+use Rattle.picture.proofs.channel_at.Reads as channel-at-reads
+use Rattle.words.proofs.word.Reads as word-reads
+
+-- the channel that A0 names
+found : (c : tie.After-known-told) → Named (c .before .before .before .before .before .before .before .before .before .args .p .now) (word (c .before .before .before .before .before .before .before .before .before .args .d .now) 4) (c .before .k .given .0 .0)
+found c = let h = c .before .before .before in channel-found _ _ _ (rw (h .before .word .ensures) at (sym (h .channel-at .ensures) ∙ c .before .k .given .1))
+
+-- src/lib.rt:117:68
+word-requires : tie.Need-word-requires
+word-requires c κs = search needs
+
+-- src/lib.rt:117:31
+channel-at-requires : tie.Need-channel-at-requires
+channel-at-requires c κs = search needs
+
+-- src/lib.rt:117:26
+enum-known-k : tie.Need-enum-known-k
+enum-known-k c = search needs
+
+-- src/lib.rt:118:9
+enum-told : tie.Need-enum-told
+enum-told c = search needs
+
+-- src/lib.rt:118:9
+same-length : tie.Need-same-length
+same-length c = search needs
+
+-- src/lib.rt:118:9
+same-length-2 : tie.Need-same-length-2
+same-length-2 c = search needs
+
+-- src/lib.rt:118:9
+returns : tie.Need-returns
+unfolding close-channel
+returns c = let h = c .before .before in
+    meets-refuse _ _ _ _ (rw (channel-dead _ _ (rw (h .before .word .ensures) at (sym (h .channel-at .ensures) ∙ c .enum-told .given .1))))
+
+-- src/lib.rt:120:5
+remove-channel-requires : tie.Need-remove-channel-requires
+remove-channel-requires c κs = let f = c .before in let s = f .before .before .before .before .before .before .before .before .before in
+    (found f .below, areas-lie-in-a-sound-picture (s .args .p .now) (s .pre) Heap .small)
+
+-- src/lib.rt:113:1
+same-length-3 : tie.Need-same-length-3
+same-length-3 c = search needs
+
+-- src/lib.rt:113:1
+same-length-4 : tie.Need-same-length-4
+same-length-4 c = search needs
+
+-- src/lib.rt:113:1
+returns-2 : tie.Need-returns-2
+unfolding close-channel
+returns-2 c = let r = c .before .before in let f = found (r .before .before) in
+    rw (r .remove-channel .ensures, ← f .place) (meets-succeed _ _ _ (rw (f .lives)))
+
+pub close-channel-spec : {M : Type 1} → statement M
+close-channel-spec =
+    tie.close
+    (tie.spec
+    word-requires
+    channel-at-requires
+    enum-known-k
+    enum-told
+    same-length
+    same-length-2
+    returns
+    remove-channel-requires
+    same-length-3
+    same-length-4
+    returns-2)

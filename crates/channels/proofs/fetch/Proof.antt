@@ -1,0 +1,156 @@
+use native.Mathlib.Omega.{arith}
+use Rattle.queues.specs.Ring.{Ring, waits}
+use mathlib.Core.Path.{_≡_, sym, ap, _∙_, subst}
+use borrow.Author.Tests.{not-true, not-false}
+use Rattle.words.specs.Words.{word}
+use Rattle.calls.proofs.Outcome.{meets-refuse, meets-succeed}
+use Rattle.picture.specs.Numbers.{position}
+use Rattle.channels.specs.Effects.{queue-of}
+use Rattle.channels.proofs.Found.{Named, channel-found, channel-dead, Held, live-queue}
+use Rattle.channels.specs.Calls.{fetch}
+use borrow.Author.Needs.{needs}
+use Rattle.channels.proofs.fetch.Statement.{statement}
+use Rattle.channels.proofs.fetch.Tie as tie
+use Rattle.channels.proofs.fetch.Reads as reads
+use Rattle.channels.proofs.fetch.Lts as lts
+use Rattle.channels.proofs.is_immediate.Reads as is-immediate-reads
+use Rattle.channels.proofs.queue_at.Reads as queue-at-reads
+use Rattle.picture.proofs.channel_at.Reads as channel-at-reads
+use Rattle.queues.proofs.is_waiting.Reads as is-waiting-reads
+use Rattle.queues.proofs.oldest_of.Reads as oldest-of-reads
+use Rattle.queues.proofs.take_oldest.Reads as take-oldest-reads
+use Rattle.words.proofs.put.Reads as put-reads
+use Rattle.words.proofs.word.Reads as word-reads
+
+-- the channel that A0 names
+found : (c : tie.After-known-told) → Named (c .before .before .before .before .before .before .before .before .before .args .p .now) (word (c .before .before .before .before .before .before .before .before .before .args .d .now) 4) (c .before .k .given .0 .0)
+found c = let h = c .before .before .before in channel-found _ _ _ (rw (h .before .word .ensures) at (sym (h .channel-at .ensures) ∙ c .before .k .given .1))
+
+-- its queue
+asked : (c : tie.After-queue-at) → c .queue-at .result ≡ queue-of (c .before .before .before .before .before .before .before .before .before .before .before .before .before .before .args .p .now) (position (word (c .before .before .before .before .before .before .before .before .before .before .before .before .before .before .args .d .now) 4))
+asked c = c .queue-at .ensures .0 ∙ ap (queue-of (c .before .before .before .before .before .before .before .before .before .before .before .before .before .before .args .p .now)) (sym (found (c .before .before .before .before .before) .place))
+
+-- src/lib.rt:145:68
+word-requires : tie.Need-word-requires
+word-requires c κs = search needs
+
+-- src/lib.rt:145:31
+channel-at-requires : tie.Need-channel-at-requires
+channel-at-requires c κs = search needs
+
+-- src/lib.rt:145:26
+enum-known-k : tie.Need-enum-known-k
+enum-known-k c = search needs
+
+-- src/lib.rt:146:9
+enum-told : tie.Need-enum-told
+enum-told c = search needs
+
+-- src/lib.rt:146:9
+same-length : tie.Need-same-length
+same-length c = search needs
+
+-- src/lib.rt:146:9
+same-length-2 : tie.Need-same-length-2
+same-length-2 c = search needs
+
+-- src/lib.rt:146:9
+returns : tie.Need-returns
+unfolding fetch
+returns c = let h = c .before .before in
+    meets-refuse _ _ _ _ (rw (channel-dead _ _ (rw (h .before .word .ensures) at (sym (h .channel-at .ensures) ∙ c .enum-told .given .1))))
+
+-- src/lib.rt:148:9
+is-immediate-requires : tie.Need-is-immediate-requires
+is-immediate-requires c κs = search needs
+
+-- src/lib.rt:149:9
+same-length-3 : tie.Need-same-length-3
+same-length-3 c = search needs
+
+-- src/lib.rt:149:9
+same-length-4 : tie.Need-same-length-4
+same-length-4 c = search needs
+
+-- src/lib.rt:149:9
+returns-2 : tie.Need-returns-2
+unfolding fetch
+returns-2 c = let a = c .before in let f = found (a .before .before) in
+    meets-refuse _ _ _ _ (rw (f .lives, sym (a .is-immediate .ensures) ∙ not-true _ (c .if1 .taken)))
+
+-- src/lib.rt:151:9
+queue-at-requires : tie.Need-queue-at-requires
+queue-at-requires c κs = found (c .before .before .before .before) .below
+
+-- src/lib.rt:152:9
+is-waiting-requires : tie.Need-is-waiting-requires
+is-waiting-requires c κs = search needs
+
+-- src/lib.rt:153:9
+same-length-5 : tie.Need-same-length-5
+same-length-5 c = search needs
+
+-- src/lib.rt:153:9
+same-length-6 : tie.Need-same-length-6
+same-length-6 c = search needs
+
+-- src/lib.rt:153:9
+returns-3 : tie.Need-returns-3
+unfolding fetch
+returns-3 c = let w = c .before in let q = w .before .before in let e = q .before .before in let a = e .before in let f = found (a .before .before) in
+    meets-refuse _ _ _ _ (rw (f .lives, sym (a .is-immediate .ensures) ∙ not-false _ (e .if1 .left), rw (asked q) at (sym (w .is-waiting .ensures) ∙ not-true _ (c .if2 .taken))))
+
+-- src/lib.rt:155:23
+oldest-of-requires : tie.Need-oldest-of-requires
+oldest-of-requires c κs = search needs
+
+-- src/lib.rt:155:5
+put-requires : tie.Need-put-requires
+put-requires c κs = search needs
+
+-- src/lib.rt:156:5
+take-oldest-requires : tie.Need-take-oldest-requires
+take-oldest-requires c κs = let o = c .before .before .before .before .before in let x = o .before .before in let w = x .before in let q = w .before .before in let g = q .before .before .before .before .before in
+    let s = g .before .before .before .before .before .before .before .before .before in
+    (omega (arith, q .queue-at .ensures .1), (subst (Ring (s .args .p .now)) (sym (asked q)) (live-queue (s .args .p .now) _ (s .pre) (found g .lives) .ring), sym (w .is-waiting .ensures) ∙ not-false _ (x .if2 .left)))
+
+-- src/lib.rt:141:1
+same-length-7 : tie.Need-same-length-7
+same-length-7 c = search needs
+
+-- src/lib.rt:141:1
+same-length-8 : tie.Need-same-length-8
+same-length-8 c = search needs
+
+-- src/lib.rt:141:1
+returns-4 : tie.Need-returns-4
+unfolding fetch
+returns-4 c = let t = c .before .before in let u = t .before .before .before .before in let o = u .before in let x = o .before .before .before in let w = x .before in let q = w .before .before in let e = q .before .before in let a = e .before in let f = found (a .before .before) in
+    rw (t .take-oldest .ensures, u .put .ensures, o .oldest-of .ensures, asked q) (meets-succeed _ _ _ (rw (f .lives, sym (a .is-immediate .ensures) ∙ not-false _ (e .if1 .left), rw (asked q) at (sym (w .is-waiting .ensures) ∙ not-false _ (x .if2 .left)))))
+
+pub fetch-spec : {M : Type 1} → statement M
+fetch-spec =
+    tie.close
+    (tie.spec
+    word-requires
+    channel-at-requires
+    enum-known-k
+    enum-told
+    same-length
+    same-length-2
+    returns
+    is-immediate-requires
+    same-length-3
+    same-length-4
+    returns-2
+    queue-at-requires
+    is-waiting-requires
+    same-length-5
+    same-length-6
+    returns-3
+    oldest-of-requires
+    put-requires
+    take-oldest-requires
+    same-length-7
+    same-length-8
+    returns-4)

@@ -1,0 +1,122 @@
+// The calls on open channels: closing, asking, fetching and sending.
+use picture::Area;
+use picture::ChannelFound;
+use picture::ChannelNumber;
+use picture::Table;
+use words::put;
+use words::word;
+ghost use mathlib.Core.Path.{_≡_};
+ghost use mathlib.Core.Bool.{true};
+ghost use Prim.Native.Nat.{_<_, _≤_};
+ghost use Rattle.picture.specs.Layout.{positions, greatest-size as greatestSize, upto};
+ghost use Rattle.picture.specs.declared.Area.the-variants.{Heap};
+ghost use Rattle.sound.specs.Sound.{sound};
+ghost use Rattle.calls.specs.Outcome.{Meets};
+ghost use Rattle.channels.specs.Effects.{queue-of as queueOf, forgotten, closed, immediate};
+ghost use Rattle.channels.specs.Calls.{close-channel as closeChannel, pending, fetch, send};
+
+// D3's low word, a timeout, is 0.
+pub fn is_immediate(d: &[u32]) -> bool
+    ensures { λ r. ⌜ r ≡ immediate (now (d .entry)) ⌝ }
+{
+    words::low_half(word(d, calls::D3)) == 0
+}
+
+// The queue of the channel at position k: its block.
+pub fn queue_at(p: &[u32], k: usize) -> usize
+    requires { ⌜ k < 32 ⌝ }
+    ensures { λ r. ⌜ (r ≡ queueOf (now (p .entry)) k) × (r < 1073741824) ⌝ }
+{
+    picture::field_of(p, Table::Channels, k, picture::BASE) as usize / 4
+}
+
+// The entry of position k is gone.
+pub fn forget(p: &mut [u32], t: Table, k: usize)
+    requires { ⌜ k < positions t ⌝ }
+    ensures { λ _. ⌜ now (p .exit) ≡ forgotten (now (p .entry)) t k ⌝ }
+{
+    let mask = picture::mask_of(t);
+    let left = masks::clear_bit(word(p, mask), k);
+    let slot = picture::slot_of(t, k);
+    words::clear(p, slot, slot + picture::width_of(t));
+    put(p, mask, left);
+}
+
+// The channel at position k is gone.
+pub fn remove_channel(p: &mut [u32], k: usize)
+    requires { ⌜ (k < 32) × (upto (now p) Heap ≤ greatestSize) ⌝ }
+    ensures { λ _. ⌜ now (p .exit) ≡ closed (now (p .entry)) k ⌝ }
+{
+    let block = queue_at(p, k);
+    let from = picture::area_from(p, Area::Heap);
+    let upto = picture::area_upto(p, Area::Heap);
+    freeing::sweep(p, from, upto, 0, block);
+    forget(p, Table::Channels, k);
+}
+
+// Trap 2 $2: closes a channel.
+pub fn close_channel(p: &mut [u32], d: &mut [u32]) -> i32
+    requires { ⌜ sound (now p) ≡ true ⌝ }
+    ensures { λ r. ⌜ Meets (closeChannel (now (p .entry)) (now (d .entry))) r (now (p .exit)) (now (d .exit)) ⌝ }
+{
+    let ChannelFound::At(k) = picture::channel_at(p, ChannelNumber(word(d, calls::A0))) else {
+        return picture::CHANNEL_NOT_OPEN;
+    };
+    remove_channel(p, k);
+    picture::DONE
+}
+
+// Trap 3 $0: asks whether a byte waits.
+pub fn pending(p: &mut [u32], d: &mut [u32]) -> i32
+    ensures { λ r. ⌜ Meets (pending (now (p .entry)) (now (d .entry))) r (now (p .exit)) (now (d .exit)) ⌝ }
+{
+    let ChannelFound::At(k) = picture::channel_at(p, ChannelNumber(word(d, calls::A0))) else {
+        return picture::CHANNEL_NOT_OPEN;
+    };
+    if !is_immediate(d) {
+        return picture::BAD_PARAMETER;
+    }
+    if !queues::is_waiting(p, queue_at(p, k)) {
+        return picture::NOT_COMPLETE;
+    }
+    picture::DONE
+}
+
+// Trap 3 $1: takes the oldest byte into D1.
+pub fn fetch(p: &mut [u32], d: &mut [u32]) -> i32
+    requires { ⌜ sound (now p) ≡ true ⌝ }
+    ensures { λ r. ⌜ Meets (fetch (now (p .entry)) (now (d .entry))) r (now (p .exit)) (now (d .exit)) ⌝ }
+{
+    let ChannelFound::At(k) = picture::channel_at(p, ChannelNumber(word(d, calls::A0))) else {
+        return picture::CHANNEL_NOT_OPEN;
+    };
+    if !is_immediate(d) {
+        return picture::BAD_PARAMETER;
+    }
+    let i = queue_at(p, k);
+    if !queues::is_waiting(p, i) {
+        return picture::NOT_COMPLETE;
+    }
+    put(d, calls::D1, queues::oldest_of(p, i));
+    queues::take_oldest(p, i);
+    picture::DONE
+}
+
+// Trap 3 $5: writes D1's low byte behind the newest.
+pub fn send(p: &mut [u32], d: &mut [u32]) -> i32
+    requires { ⌜ sound (now p) ≡ true ⌝ }
+    ensures { λ r. ⌜ Meets (send (now (p .entry)) (now (d .entry))) r (now (p .exit)) (now (d .exit)) ⌝ }
+{
+    let ChannelFound::At(k) = picture::channel_at(p, ChannelNumber(word(d, calls::A0))) else {
+        return picture::CHANNEL_NOT_OPEN;
+    };
+    if !is_immediate(d) {
+        return picture::BAD_PARAMETER;
+    }
+    let i = queue_at(p, k);
+    if queues::is_full(p, i) {
+        return picture::NOT_COMPLETE;
+    }
+    queues::add_newest(p, i, word(d, calls::D1) % 256);
+    picture::DONE
+}

@@ -1,0 +1,1 @@
+// What opening and closing a channel keep: laws only.

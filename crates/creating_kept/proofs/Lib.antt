@@ -1,0 +1,7 @@
+-- What creating a job keeps and refuses.
+pub mod Ways
+pub mod Refuses
+pub mod Room
+pub mod Made
+pub mod Kept
+pub mod Others

@@ -1,0 +1,1 @@
+// What creating a job keeps and refuses: laws only.

@@ -1,0 +1,65 @@
+-- What the calls $8 to $B do to the record of the job at position k, and what they answer.
+use Prim.Native.Nat.{ℕ, _*_, _%_}
+use mathlib.Core.Bool.{Bool, true, false, not, _&&_, cond}
+use mathlib.Core.List.{List}
+use lib.Dec.{leb, eqb}
+use Rattle.picture.specs.Layout.{nobody}
+use Rattle.picture.specs.Records.{slot, timeout}
+use Rattle.picture.specs.declared.Table.the-variants.{Jobs}
+use Rattle.records.specs.Rules.{greatest-priority}
+use Rattle.timeouts.specs.declared.Timeout.{Timeout}
+use Rattle.timeouts.specs.declared.Timeout.the-variants.{Zero, Frames, Endless, Bad}
+use Rattle.calls.specs.Registers.{with-D1, with-A0}
+use Rattle.calls.specs.Writes.{with-field}
+
+-- "$8 to $B also: D1 the number, A0 the record's offset"
+unfoldable pub naming : ℕ → ℕ → List ℕ → List ℕ
+naming n k d = with-A0 (4 * slot Jobs k) (with-D1 n d)
+
+-- "D3's low word 1 to 32,767 or -1"
+abbrev pub suspends : Timeout → Bool
+suspends Zero = false
+suspends (Frames n) = true
+suspends Endless = true
+suspends Bad = false
+
+-- "Sets the timeout, ends any wait, clears accumulated and key."
+unfoldable pub suspended : List ℕ → ℕ → ℕ → List ℕ
+suspended p k t = with-field (with-field (with-field (with-field p Jobs k 5 t) Jobs k 6 0) Jobs k 4 0) Jobs k 7 0
+
+-- "Suspended: timeout, wait and key become 0."
+unfoldable pub released : List ℕ → ℕ → List ℕ
+released p k = cond (eqb (timeout p k) 0) p (with-field (with-field (with-field p Jobs k 5 0) Jobs k 6 0) Jobs k 7 0)
+
+-- "D2's low byte"
+abbrev pub low-byte : ℕ → ℕ
+low-byte register = register % 256
+
+-- "low byte of D2 at most 127", and "1 to 127"
+abbrev pub priority-good : ℕ → Bool
+priority-good u = leb u greatest-priority
+
+abbrev pub activity-good : ℕ → Bool
+activity-good u = leb 1 u && leb u greatest-priority
+
+-- "Sets priority, clears accumulated."
+unfoldable pub prioritized : List ℕ → ℕ → ℕ → List ℕ
+prioritized p k u = with-field (with-field p Jobs k 3 u) Jobs k 4 0
+
+-- "D3's low word 0 or -1, and not -1 for job 0"
+abbrev pub may-wait : Timeout → ℕ → Bool
+may-wait Zero n = true
+may-wait (Frames m) n = false
+may-wait Endless n = not (eqb n 0)
+may-wait Bad n = false
+
+-- "-1"
+abbrev pub endless : Timeout → Bool
+endless Zero = false
+endless (Frames n) = false
+endless Endless = true
+endless Bad = false
+
+-- "With -1 the caller has timeout -1, accumulated 0, and waits": the caller at position c, for the job with number n
+unfoldable pub waiting : List ℕ → Timeout → ℕ → ℕ → List ℕ
+waiting p t c n = cond (endless t) (with-field (with-field (with-field p Jobs c 5 nobody) Jobs c 4 0) Jobs c 6 n) p

@@ -1,0 +1,63 @@
+use mathlib.Core.Path.{_≡_, refl, sym, _∙_}
+use Prim.Native.Nat.{_≤_, _-_}
+use Rattle.tree.specs.Mask.{mask}
+use Rattle.emptying.specs.Taken.{channel-goes, channels-of}
+use Rattle.tree.proofs.Mask.{mask-lt, mask-more}
+use borrow.Author.Needs.{needs}
+use native.Mathlib.Omega.{arith}
+use Rattle.emptying.proofs.channels_of.Statement.{statement}
+use Rattle.emptying.proofs.channels_of.Tie as tie
+use Rattle.emptying.proofs.channels_of.Reads as reads
+use Rattle.emptying.proofs.channels_of.Lts as lts
+use Rattle.emptying.proofs.is_channel_going.Reads as is-channel-going-reads
+use Rattle.tree.proofs.with_bit.Reads as with-bit-reads
+
+abbrev Inv-loop : tie.InvT-loop
+Inv-loop p mask channels₀ k₀ channels k = (k ≤ 32) × (channels ≡ Rattle.tree.specs.Mask.mask (channel-goes p mask) k)
+
+abbrev μ-loop : tie.MeasureT-loop
+μ-loop p mask channels₀ k₀ channels k = 32 - k
+
+-- src/lib.rt:124:5
+loop-holds : tie.Need-loop-holds Inv-loop μ-loop
+unfolding mask
+loop-holds c = (omega arith, refl)
+
+-- src/lib.rt:125:13
+is-channel-going-requires : tie.Need-is-channel-going-requires Inv-loop μ-loop
+is-channel-going-requires c κs = search needs
+
+-- src/lib.rt:126:9
+with-bit-requires : tie.Need-with-bit-requires Inv-loop μ-loop
+with-bit-requires c κs = let l = c .before .before .loop in (omega arith, rw (l .inv .1) (mask-lt _ _))
+
+-- src/lib.rt:124:9
+add-k : tie.Need-add-k Inv-loop μ-loop
+add-k c = search needs
+
+-- src/lib.rt:124:5
+loop-less : tie.Need-loop-less Inv-loop μ-loop
+loop-less c = search needs
+
+-- src/lib.rt:124:5
+loop-again : tie.Need-loop-again Inv-loop μ-loop
+loop-again c = let l = c .before .before .before .loop in (omega arith, c .with-bit .ensures ∙ rw (l .inv .1, c .before .is-channel-going .ensures) (sym (mask-more _ _)))
+
+-- src/lib.rt:120:1
+returns : tie.Need-returns Inv-loop μ-loop
+unfolding channels-of
+returns c = let e : c .before .loop .k ≡ 32 = omega arith in c .before .loop .inv .1 ∙ rw e
+
+pub channels-of-spec : {M : Type 1} → statement M
+channels-of-spec =
+    tie.close
+    (tie.spec
+    Inv-loop
+    μ-loop
+    loop-holds
+    is-channel-going-requires
+    with-bit-requires
+    add-k
+    loop-less
+    loop-again
+    returns)

@@ -1,0 +1,95 @@
+use mathlib.Core.Path.{_≡_, refl, sym, ap, _∙_}
+use Prim.Native.Nat.{_≤_, _-_}
+use lib.ListN.{length}
+use Rattle.emptying.proofs.Steps.{each-more, length-blanked}
+use Rattle.emptying.specs.Taken.{blanked, emptied}
+use Rattle.emptying.specs.Each.{each}
+use borrow.Author.Needs.{needs}
+use native.Mathlib.Omega.{arith}
+use Rattle.emptying.proofs.empty_table.Statement.{statement}
+use Rattle.emptying.proofs.empty_table.Tie as tie
+use Rattle.emptying.proofs.empty_table.Reads as reads
+use Rattle.emptying.proofs.empty_table.Lts as lts
+use Rattle.emptying.proofs.blank.Reads as blank-reads
+use Rattle.picture.proofs.mask_of.Reads as mask-of-reads
+use Rattle.picture.proofs.positions_of.Reads as positions-of-reads
+use Rattle.words.proofs.put.Reads as put-reads
+use Rattle.words.proofs.word.Reads as word-reads
+
+abbrev Inv-loop : tie.InvT-loop
+Inv-loop p₀ t mask k₀ k-end p k = (k ≤ k-end) × ((length p ≡ length p₀) × (p ≡ each (blanked t mask) k p₀))
+
+abbrev μ-loop : tie.MeasureT-loop
+μ-loop p₀ t mask k₀ k-end p k = k-end - k
+
+-- src/lib.rt:103:17
+positions-of-requires : tie.Need-positions-of-requires Inv-loop μ-loop
+positions-of-requires c κs = search needs
+
+-- src/lib.rt:103:5
+loop-holds : tie.Need-loop-holds Inv-loop μ-loop
+unfolding each
+loop-holds c = (omega arith, (refl, refl))
+
+-- src/lib.rt:104:9
+blank-requires : tie.Need-blank-requires Inv-loop μ-loop
+blank-requires c κs = rw (c .before .before .before .positions-of .ensures .0) at (c .before .loop-test .taken)
+
+-- src/lib.rt:103:9
+add-k : tie.Need-add-k Inv-loop μ-loop
+add-k c = search needs
+
+-- src/lib.rt:103:5
+loop-less : tie.Need-loop-less Inv-loop μ-loop
+loop-less c = search needs
+
+-- src/lib.rt:103:5
+loop-again : tie.Need-loop-again Inv-loop μ-loop
+loop-again c = let w = c .before .before in
+    let l = w .before .before .before .loop in
+    (omega arith, (ap length (w .blank .ensures) ∙ length-blanked _ _ _ _ ∙ l .inv .1 .0, w .blank .ensures ∙ rw (l .inv .1 .1, each-more _ _ _)))
+
+-- src/lib.rt:106:9
+mask-of-requires : tie.Need-mask-of-requires Inv-loop μ-loop
+mask-of-requires c κs = search needs
+
+-- src/lib.rt:107:9
+word-requires : tie.Need-word-requires Inv-loop μ-loop
+word-requires c κs = search needs
+
+-- src/lib.rt:108:5
+put-requires : tie.Need-put-requires Inv-loop μ-loop
+put-requires c κs = search needs
+
+-- src/lib.rt:100:1
+same-length : tie.Need-same-length Inv-loop μ-loop
+same-length c = search needs
+
+-- src/lib.rt:100:1
+returns : tie.Need-returns Inv-loop μ-loop
+unfolding emptied
+returns c = let u = c .before .before in
+    let w = u .before .before in
+    let m = w .before .before in
+    let l = m .before in
+    let a = l .before in
+    let e : a .loop .k ≡ a .before .positions-of .result = omega arith in
+    rw (u .put .ensures, w .word .ensures, m .mask-of .ensures, a .loop .inv .1 .1, e, a .before .positions-of .ensures .0)
+
+pub empty-table-spec : {M : Type 1} → statement M
+empty-table-spec =
+    tie.close
+    (tie.spec
+    Inv-loop
+    μ-loop
+    positions-of-requires
+    loop-holds
+    blank-requires
+    add-k
+    loop-less
+    loop-again
+    mask-of-requires
+    word-requires
+    put-requires
+    same-length
+    returns)

@@ -1,0 +1,10 @@
+-- Laws of the definitions of crate ending.
+pub mod Bits
+pub mod Tables
+pub mod Taken
+pub mod Areas
+pub mod Owned
+pub mod Sound
+pub mod Calls
+pub mod Promise
+pub mod Refusal

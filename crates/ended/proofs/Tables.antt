@@ -1,0 +1,212 @@
+-- A table without the entries of a mask, and the jobs that are woken, longword by longword.
+use Prim.Native.Nat.{ℕ, zero, suc, _+_, _-_, _*_, _≤_, _<_}
+use mathlib.Core.Path.{_≡_, refl, sym, ap, _∙_, subst}
+use mathlib.Core.Bool.{Bool, true, false, _&&_, not, cond}
+use mathlib.Core.Logic.{⊎-elim, _⊎_, inl, inr}
+use mathlib.Core.List.{List}
+use lib.ListN.{length, length-set}
+use lib.Seq.{getD-set-same, getD-set-other}
+use lib.Dec.{eqb}
+use native.Mathlib.Omega.{arith}
+use native.Mathlib.Nat.{eq-or-lt-of-le, le-of-suc-le-suc, not-suc-le-zero}
+use Rattle.words.specs.Words.{word, put, clear}
+use Rattle.words.specs.Bits.{bit}
+use Rattle.words.proofs.Tests.{lt-or-ge}
+use Rattle.picture.specs.Layout.{mask-word, positions, width, first-record, heap-base}
+use Rattle.picture.specs.Records.{slot, timeout, waited-for, delivered, used}
+use Rattle.picture.specs.declared.Table.{Table}
+use Rattle.picture.specs.declared.Table.the-variants.{Jobs, Channels}
+use Rattle.picture.proofs.Records.{slot-within, used-is, used-past, positions-same}
+use Rattle.headers.specs.Area.{Outside}
+use Rattle.headers.proofs.Clear.{clear-other, clear-zeros}
+use Rattle.freeing.specs.Sweep.{named}
+use Rattle.calls.specs.Writes.{with-field}
+use Rattle.emptying.specs.Each.{each}
+use Rattle.emptying.specs.Taken.{waits, woken, blanked, without, emptied}
+use Rattle.emptying.proofs.Steps.{length-each, length-woken, length-blanked, length-emptied}
+use Rattle.ended.proofs.Bits.{without-bit}
+
+-- a longword that no step touches
+pub each-other : (s : List ℕ → ℕ → List ℕ) (n : ℕ) (p : List ℕ) (x : ℕ) → ((q : List ℕ) (k : ℕ) → k < n → word (s q k) x ≡ word q x) → word (each s n p) x ≡ word p x
+unfolding each
+each-other s zero p x h = refl
+each-other s (suc n) p x h = h (each s n p) n (omega arith) ∙ each-other s n p x (λ q k l. h q k (omega arith))
+
+-- a longword that only the step at j touches
+pub each-at : (s : List ℕ → ℕ → List ℕ) (n j : ℕ) (p : List ℕ) (x : ℕ) → j < n → ((q : List ℕ) (k : ℕ) → k < n → (k ≡ j → ⊥) → word (s q k) x ≡ word q x) → word (each s n p) x ≡ word (s (each s j p) j) x
+unfolding each
+each-at s zero j p x l h = absurd (not-suc-le-zero l)
+each-at s (suc n) j p x l h = ⊎-elim
+    (λ (e : j ≡ n). ap (λ (i : ℕ). word (s (each s i p) i) x) (sym e))
+    (λ (m : j < n). h (each s n p) n (omega arith) (λ z. omega arith) ∙ each-at s n j p x m (λ q k i. h q k (omega arith)))
+    (eq-or-lt-of-le (le-of-suc-le-suc l))
+
+-- beside the records of a table
+abbrev pub Beside : Table → ℕ → Type 0
+Beside t x = Outside (first-record t) (first-record t + width t * positions t) x
+
+beside-record : (t : Table) (k x : ℕ) → k < positions t → Beside t x → Outside (slot t k) (slot t k + width t) x
+beside-record Jobs k x l (inl h) = inl (omega arith)
+beside-record Jobs k x l (inr h) = inr (omega arith)
+beside-record Channels k x l (inl h) = inl (omega arith)
+beside-record Channels k x l (inr h) = inr (omega arith)
+
+-- beside another record of the table
+beside-other : (t : Table) (j k f : ℕ) → (k ≡ j → ⊥) → f < width t → Outside (slot t k) (slot t k + width t) (slot t j + f)
+beside-other Jobs j k f n l = ⊎-elim (λ (h : j < k). inl (omega arith)) (λ (h : k ≤ j). inr (omega arith)) (lt-or-ge j k)
+beside-other Channels j k f n l = ⊎-elim (λ (h : j < k). inl (omega arith)) (λ (h : k ≤ j). inr (omega arith)) (lt-or-ge j k)
+
+mask-beside : (t : Table) → mask-word t < first-record t
+mask-beside Jobs = omega arith
+mask-beside Channels = omega arith
+
+mask-within : (t : Table) → mask-word t < heap-base
+mask-within Jobs = omega arith
+mask-within Channels = omega arith
+
+record-not-mask : (t : Table) (k f : ℕ) → slot t k + f ≡ mask-word t → ⊥
+record-not-mask Jobs k f e = omega arith
+record-not-mask Channels k f e = omega arith
+
+-- one record
+blanked-other : (t : Table) (m : ℕ) (p : List ℕ) (k x : ℕ) → Outside (slot t k) (slot t k + width t) x → word (blanked t m p k) x ≡ word p x
+unfolding blanked
+blanked-other t m p k x o = go (bit m k)
+  where
+    go : (b : Bool) → word (cond b (clear (width t) p (slot t k)) p) x ≡ word p x
+    go true = clear-other (width t) p (slot t k) x o
+    go false = refl
+
+blanked-at : (t : Table) (m : ℕ) (p : List ℕ) (k f : ℕ) → heap-base ≤ length p → k < positions t → f < width t → word (blanked t m p k) (slot t k + f) ≡ cond (bit m k) 0 (word p (slot t k + f))
+unfolding blanked
+blanked-at t m p k f long l h = go (bit m k)
+  where
+    go : (b : Bool) → word (cond b (clear (width t) p (slot t k)) p) (slot t k + f) ≡ cond b 0 (word p (slot t k + f))
+    go true = let w = slot-within t k l in clear-zeros (width t) p (slot t k) (slot t k + f) (omega arith) (omega arith) (omega arith)
+    go false = refl
+
+-- a table without the entries of m
+module _ (p : List ℕ) (t : Table) (m : ℕ) where
+  pub emptied-other : (x : ℕ) → Beside t x → (x ≡ mask-word t → ⊥) → word (emptied p t m) x ≡ word p x
+  unfolding emptied
+  emptied-other x b n =
+      getD-set-other (each (blanked t m) (positions t) p) (mask-word t) x (without (word (each (blanked t m) (positions t) p) (mask-word t)) m) 0 n
+      ∙ each-other (blanked t m) (positions t) p x (λ q k l. blanked-other t m q k x (beside-record t k x l b))
+
+  module _ (long : heap-base ≤ length p) where
+    pub emptied-record : (k f : ℕ) → k < positions t → f < width t → word (emptied p t m) (slot t k + f) ≡ cond (bit m k) 0 (word p (slot t k + f))
+    unfolding emptied
+    emptied-record k f l h =
+        getD-set-other (each (blanked t m) (positions t) p) (mask-word t) (slot t k + f) (without (word (each (blanked t m) (positions t) p) (mask-word t)) m) 0 (record-not-mask t k f)
+        ∙ each-at (blanked t m) (positions t) k p (slot t k + f) l (λ q j i n. blanked-other t m q j (slot t k + f) (beside-other t k j f n h))
+        ∙ blanked-at t m (each (blanked t m) k p) k f (rw (length-each (blanked t m) (length-blanked t m) k p) long) l h
+        ∙ ap (cond (bit m k) 0) (each-other (blanked t m) k p (slot t k + f) (λ q j i. blanked-other t m q j (slot t k + f) (beside-other t k j f (λ z. omega arith) h)))
+
+    pub emptied-mask : word (emptied p t m) (mask-word t) ≡ without (word p (mask-word t)) m
+    unfolding emptied
+    emptied-mask =
+        let w = mask-within t in
+        getD-set-same (each (blanked t m) (positions t) p) (mask-word t) (without (word (each (blanked t m) (positions t) p) (mask-word t)) m) 0 (rw (length-each (blanked t m) (length-blanked t m) (positions t) p) (omega arith))
+        ∙ ap (λ (x : ℕ). without x m) (each-other (blanked t m) (positions t) p (mask-word t) (λ q k l. blanked-other t m q k (mask-word t) (beside-record t k (mask-word t) l (inl (mask-beside t)))))
+
+-- the positions in use of a picture whose mask is without that of m
+module _ (p q : List ℕ) (t : Table) (m : ℕ) (fits : m < 4294967296) (h : word q (mask-word t) ≡ without (word p (mask-word t)) m) where
+  used-bit : (k : ℕ) → k < positions t → used q t k ≡ not (bit m k) && bit (word p (mask-word t)) k
+  used-bit k l = used-is q t k l ∙ rw h (without-bit (word p (mask-word t)) m k (subst (λ (n : ℕ). k < n) (positions-same t) l) fits)
+
+  pub out-of-use : (k : ℕ) → bit m k ≡ true → used q t k ≡ false
+  out-of-use k b = ⊎-elim (λ (l : k < positions t). used-bit k l ∙ rw b) (λ (l : positions t ≤ k). used-past q t k l) (lt-or-ge k (positions t))
+
+  pub in-use : (k : ℕ) → bit m k ≡ false → used q t k ≡ used p t k
+  in-use k b = ⊎-elim (λ (l : k < positions t). used-bit k l ∙ rw b (sym (used-is p t k l))) (λ (l : positions t ≤ k). used-past q t k l ∙ sym (used-past p t k l)) (lt-or-ge k (positions t))
+
+-- waking writes timeout, wait and key of a job that waits
+abbrev Spared : ℕ → ℕ → Type 0
+Spared k x = (f : ℕ) → 5 ≤ f → f < 8 → x ≡ slot Jobs k + f → ⊥
+
+woken-other : (m key : ℕ) (p : List ℕ) (k x : ℕ) → Spared k x → word (woken m key p k) x ≡ word p x
+unfolding woken
+woken-other m key p k x s = go (waits p m k)
+  where
+    go : (b : Bool) → word (cond b (with-field (with-field (with-field p Jobs k 5 0) Jobs k 6 0) Jobs k 7 key) p) x ≡ word p x
+    go true =
+        getD-set-other (with-field (with-field p Jobs k 5 0) Jobs k 6 0) (slot Jobs k + 7) x key 0 (s 7 (omega arith) (omega arith))
+        ∙ getD-set-other (with-field p Jobs k 5 0) (slot Jobs k + 6) x 0 0 (s 6 (omega arith) (omega arith))
+        ∙ getD-set-other p (slot Jobs k + 5) x 0 0 (s 5 (omega arith) (omega arith))
+    go false = refl
+
+module _ (m key : ℕ) (p : List ℕ) (k : ℕ) (l : k < positions Jobs) (long : heap-base ≤ length p) where
+  woken-timeout : timeout (woken m key p k) k ≡ cond (waits p m k) 0 (timeout p k)
+  unfolding woken
+  woken-timeout = go (waits p m k)
+    where
+      go : (b : Bool) → word (cond b (with-field (with-field (with-field p Jobs k 5 0) Jobs k 6 0) Jobs k 7 key) p) (slot Jobs k + 5) ≡ cond b 0 (timeout p k)
+      go true =
+          getD-set-other (with-field (with-field p Jobs k 5 0) Jobs k 6 0) (slot Jobs k + 7) (slot Jobs k + 5) key 0 (λ z. omega arith)
+          ∙ getD-set-other (with-field p Jobs k 5 0) (slot Jobs k + 6) (slot Jobs k + 5) 0 0 (λ z. omega arith)
+          ∙ getD-set-same p (slot Jobs k + 5) 0 0 (omega arith)
+      go false = refl
+
+  woken-wait : waited-for (woken m key p k) k ≡ cond (waits p m k) 0 (waited-for p k)
+  unfolding woken
+  woken-wait = go (waits p m k)
+    where
+      go : (b : Bool) → word (cond b (with-field (with-field (with-field p Jobs k 5 0) Jobs k 6 0) Jobs k 7 key) p) (slot Jobs k + 6) ≡ cond b 0 (waited-for p k)
+      go true =
+          getD-set-other (with-field (with-field p Jobs k 5 0) Jobs k 6 0) (slot Jobs k + 7) (slot Jobs k + 6) key 0 (λ z. omega arith)
+          ∙ getD-set-same (with-field p Jobs k 5 0) (slot Jobs k + 6) 0 0 (simp length-set (omega arith))
+      go false = refl
+
+  woken-key : delivered (woken m key p k) k ≡ cond (waits p m k) key (delivered p k)
+  unfolding woken
+  woken-key = go (waits p m k)
+    where
+      go : (b : Bool) → word (cond b (with-field (with-field (with-field p Jobs k 5 0) Jobs k 6 0) Jobs k 7 key) p) (slot Jobs k + 7) ≡ cond b key (delivered p k)
+      go true = getD-set-same (with-field (with-field p Jobs k 5 0) Jobs k 6 0) (slot Jobs k + 7) key 0 (simp length-set (omega arith))
+      go false = refl
+
+-- who waits depends on the mask of jobs and the job's wait
+pub waits-same : (p q : List ℕ) (m k : ℕ) → used q Jobs k ≡ used p Jobs k → waited-for q k ≡ waited-for p k → waits q m k ≡ waits p m k
+unfolding waits
+waits-same p q m k u w = rw (u, w)
+
+used-with : (p q : List ℕ) (k : ℕ) → word q (mask-word Jobs) ≡ word p (mask-word Jobs) → used q Jobs k ≡ used p Jobs k
+unfolding used
+used-with p q k h = rw h
+
+-- all that wait are woken
+module _ (m key : ℕ) (p : List ℕ) where
+  pub wakes-other : (x : ℕ) → ((k : ℕ) → k < positions Jobs → Spared k x) → word (each (woken m key) (positions Jobs) p) x ≡ word p x
+  wakes-other x s = each-other (woken m key) (positions Jobs) p x (λ q k l. woken-other m key q k x (s k l))
+
+  module _ (k : ℕ) (l : k < positions Jobs) (long : heap-base ≤ length p) where
+    so-far : List ℕ
+    so-far = each (woken m key) k p
+
+    so-long : heap-base ≤ length so-far
+    unfolding so-far
+    so-long = rw (length-each (woken m key) (length-woken m key) k p) long
+
+    -- the record of k is not touched before k's turn
+    before : (f : ℕ) → f < 8 → word so-far (slot Jobs k + f) ≡ word p (slot Jobs k + f)
+    unfolding so-far
+    before f h = each-other (woken m key) k p (slot Jobs k + f) (λ q j i. woken-other m key q j (slot Jobs k + f) (λ g a b z. omega arith))
+
+    waited : waits so-far m k ≡ waits p m k
+    unfolding so-far
+    waited = waits-same p so-far m k
+        (used-with p so-far k (each-other (woken m key) k p (mask-word Jobs) (λ q j i. woken-other m key q j (mask-word Jobs) (λ g a b z. omega arith))))
+        (before 6 (omega arith))
+
+    turn : (f : ℕ) → f < 8 → word (each (woken m key) (positions Jobs) p) (slot Jobs k + f) ≡ word (woken m key so-far k) (slot Jobs k + f)
+    unfolding so-far
+    turn f h = each-at (woken m key) (positions Jobs) k p (slot Jobs k + f) l (λ q j i n. woken-other m key q j (slot Jobs k + f) (λ g a b z. n (omega arith)))
+
+    pub wakes-timeout : timeout (each (woken m key) (positions Jobs) p) k ≡ cond (waits p m k) 0 (timeout p k)
+    wakes-timeout = turn 5 (omega arith) ∙ woken-timeout m key so-far k l so-long ∙ rw (waited, before 5 (omega arith))
+
+    pub wakes-wait : waited-for (each (woken m key) (positions Jobs) p) k ≡ cond (waits p m k) 0 (waited-for p k)
+    wakes-wait = turn 6 (omega arith) ∙ woken-wait m key so-far k l so-long ∙ rw (waited, before 6 (omega arith))
+
+    pub wakes-key : delivered (each (woken m key) (positions Jobs) p) k ≡ cond (waits p m k) key (delivered p k)
+    wakes-key = turn 7 (omega arith) ∙ woken-key m key so-far k l so-long ∙ rw (waited, before 7 (omega arith))

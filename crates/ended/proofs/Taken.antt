@@ -1,0 +1,196 @@
+-- The tables after the jobs of a mask m and the channels of a mask c were taken out.
+use Prim.Native.Nat.{ℕ, zero, suc, _+_, _-_, _*_, _≤_, _<_}
+use mathlib.Core.Path.{_≡_, refl, sym, ap, _∙_, subst}
+use mathlib.Core.Bool.{Bool, true, false, _&&_, not, cond}
+use mathlib.Core.Logic.{⊎-elim, _⊎_, inl, inr}
+use mathlib.Core.List.{List}
+use lib.ListN.{length, length-set}
+use lib.Seq.{getD-set-same, getD-set-other}
+use native.Mathlib.Omega.{arith}
+use Rattle.words.specs.Words.{word, put}
+use Rattle.words.specs.Bits.{bit}
+use Rattle.picture.specs.Layout.{nobody, current-word, mask-word, positions, width, first-record, heap-base}
+use Rattle.picture.specs.Records.{slot, field, accumulated, timeout, waited-for, delivered, used}
+use Rattle.picture.specs.declared.Table.{Table}
+use Rattle.picture.specs.declared.Table.the-variants.{Jobs, Channels}
+use Rattle.picture.proofs.Records.{slot-within}
+use Rattle.facts.proofs.Same.{used-same}
+use Rattle.calls.specs.Writes.{with-nobody}
+use Rattle.emptying.specs.Each.{each}
+use Rattle.emptying.specs.Taken.{waits, woken, without, emptied, taken}
+use Rattle.emptying.proofs.Steps.{length-each, length-woken, length-emptied}
+use Rattle.ended.proofs.Tables.{Beside, emptied-other, emptied-record, emptied-mask, out-of-use, in-use, waits-same, wakes-other, wakes-timeout, wakes-wait, wakes-key}
+
+-- the mask of a table's entries that go
+abbrev pub going : ℕ → ℕ → Table → ℕ
+going m c Jobs = m
+going m c Channels = c
+
+-- q is p without the jobs of m and the channels of c, whose waiters are woken with the key
+pub record Taken (p q : List ℕ) (m c key : ℕ) : Type 0 where
+  pub long : length q ≡ length p
+  pub current : word q current-word ≡ nobody
+  pub head : (x : ℕ) → x < first-record Jobs → (x ≡ current-word → ⊥) → (x ≡ mask-word Jobs → ⊥) → (x ≡ mask-word Channels → ⊥) → word q x ≡ word p x
+  pub dies : (t : Table) (k : ℕ) → bit (going m c t) k ≡ true → used q t k ≡ false
+  pub stays : (t : Table) (k : ℕ) → bit (going m c t) k ≡ false → used q t k ≡ used p t k
+  pub blank : (t : Table) (k f : ℕ) → k < positions t → f < width t → bit (going m c t) k ≡ true → field q t k f ≡ 0
+  pub same : (t : Table) (k f : ℕ) → k < positions t → f < 4 → bit (going m c t) k ≡ false → field q t k f ≡ field p t k f
+  pub gains : (k : ℕ) → k < positions Jobs → bit m k ≡ false → accumulated q k ≡ accumulated p k
+  pub frames : (k : ℕ) → k < positions Jobs → bit m k ≡ false → timeout q k ≡ cond (waits p m k) 0 (timeout p k)
+  pub wait : (k : ℕ) → k < positions Jobs → bit m k ≡ false → waited-for q k ≡ cond (waits p m k) 0 (waited-for p k)
+  pub gets : (k : ℕ) → k < positions Jobs → bit m k ≡ false → delivered q k ≡ cond (waits p m k) key (delivered p k)
+
+module _ (p : List ℕ) (m c key : ℕ) (long : heap-base ≤ length p) (mf : m < 4294967296) (cf : c < 4294967296) where
+  w : List ℕ
+  w = each (woken m key) (positions Jobs) p
+
+  j : List ℕ
+  j = emptied w Jobs m
+
+  q : List ℕ
+  q = with-nobody (emptied j Channels c)
+
+  long-w : length w ≡ length p
+  unfolding w
+  long-w = length-each (woken m key) (length-woken m key) (positions Jobs) p
+
+  long-j : length j ≡ length p
+  unfolding j
+  long-j = length-emptied w Jobs m ∙ long-w
+
+  long-q : length q ≡ length p
+  unfolding q
+  long-q = simp length-set (length-emptied j Channels c ∙ long-j)
+
+  w-long : heap-base ≤ length w
+  w-long = rw long-w long
+
+  j-long : heap-base ≤ length j
+  j-long = rw long-j long
+
+  -- longwords but the first record's number of a table: nobody is written at 1
+  past-current : (x : ℕ) → (x ≡ current-word → ⊥) → word q x ≡ word (emptied j Channels c) x
+  unfolding q
+  past-current x n = getD-set-other (emptied j Channels c) current-word x nobody 0 n
+
+  -- a field of a job's record
+  job-field : (k f : ℕ) → k < positions Jobs → f < 8 → field q Jobs k f ≡ cond (bit m k) 0 (field w Jobs k f)
+  unfolding j
+  job-field k f l h =
+      past-current (slot Jobs k + f) (λ z. omega arith)
+      ∙ emptied-other j Channels c (slot Jobs k + f) (inl (omega arith)) (λ z. omega arith)
+      ∙ emptied-record w Jobs m w-long k f l h
+
+  -- those that waking leaves
+  job-same : (k f : ℕ) → k < positions Jobs → f < 5 → field w Jobs k f ≡ field p Jobs k f
+  unfolding w
+  job-same k f l h = wakes-other m key p (slot Jobs k + f) (λ i o g a b z. omega arith)
+
+  channel-field : (k f : ℕ) → k < positions Channels → f < 4 → field q Channels k f ≡ cond (bit c k) 0 (field p Channels k f)
+  unfolding j w
+  channel-field k f l h =
+      past-current (slot Channels k + f) (λ z. omega arith)
+      ∙ emptied-record j Channels c j-long k f l h
+      ∙ ap (cond (bit c k) 0) (emptied-other w Jobs m (slot Channels k + f) (inr (omega arith)) (λ z. omega arith) ∙ wakes-other m key p (slot Channels k + f) (λ i o g a b z. omega arith))
+
+  low : (x : ℕ) → x < first-record Jobs → word w x ≡ word p x
+  unfolding w
+  low x l = wakes-other m key p x (λ i o g a b z. omega arith)
+
+  job-mask : word q (mask-word Jobs) ≡ without (word p (mask-word Jobs)) m
+  unfolding j
+  job-mask =
+      past-current (mask-word Jobs) (λ z. omega arith)
+      ∙ emptied-other j Channels c (mask-word Jobs) (inl (omega arith)) (λ z. omega arith)
+      ∙ emptied-mask w Jobs m w-long
+      ∙ ap (λ (x : ℕ). without x m) (low (mask-word Jobs) (omega arith))
+
+  channel-mask : word q (mask-word Channels) ≡ without (word p (mask-word Channels)) c
+  unfolding j
+  channel-mask =
+      past-current (mask-word Channels) (λ z. omega arith)
+      ∙ emptied-mask j Channels c j-long
+      ∙ ap (λ (x : ℕ). without x c) (emptied-other w Jobs m (mask-word Channels) (inl (omega arith)) (λ z. omega arith) ∙ low (mask-word Channels) (omega arith))
+
+  dies-by : (t : Table) (k : ℕ) → bit (going m c t) k ≡ true → used q t k ≡ false
+  dies-by Jobs k b = out-of-use p q Jobs m mf job-mask k b
+  dies-by Channels k b = out-of-use p q Channels c cf channel-mask k b
+
+  stays-by : (t : Table) (k : ℕ) → bit (going m c t) k ≡ false → used q t k ≡ used p t k
+  stays-by Jobs k b = in-use p q Jobs m mf job-mask k b
+  stays-by Channels k b = in-use p q Channels c cf channel-mask k b
+
+  blank-by : (t : Table) (k f : ℕ) → k < positions t → f < width t → bit (going m c t) k ≡ true → field q t k f ≡ 0
+  blank-by Jobs k f l h b = job-field k f l h ∙ rw b
+  blank-by Channels k f l h b = channel-field k f l h ∙ rw b
+
+  same-by : (t : Table) (k f : ℕ) → k < positions t → f < 4 → bit (going m c t) k ≡ false → field q t k f ≡ field p t k f
+  same-by Jobs k f l h b = job-field k f l (omega arith) ∙ rw b (job-same k f l (omega arith))
+  same-by Channels k f l h b = channel-field k f l h ∙ rw b
+
+  jw : (x : ℕ) → x < first-record Jobs → (x ≡ mask-word Jobs → ⊥) → word j x ≡ word w x
+  unfolding j
+  jw x l o = emptied-other w Jobs m x (inl l) o
+
+  is-taken : Taken p q m c key
+  unfolding q w
+  is-taken = record {
+    long = long-q;
+    current = getD-set-same (emptied j Channels c) current-word nobody 0 (rw (length-emptied j Channels c, long-j) (omega arith));
+    head = λ x l n o r. past-current x n ∙ emptied-other j Channels c x (inl (omega arith)) r ∙ jw x l o ∙ low x l;
+    dies = dies-by;
+    stays = stays-by;
+    blank = blank-by;
+    same = same-by;
+    gains = λ k l b. job-field k 4 l (omega arith) ∙ rw b (job-same k 4 l (omega arith));
+    frames = λ k l b. job-field k 5 l (omega arith) ∙ rw b (wakes-timeout m key p k l long);
+    wait = λ k l b. job-field k 6 l (omega arith) ∙ rw b (wakes-wait m key p k l long);
+    gets = λ k l b. job-field k 7 l (omega arith) ∙ rw b (wakes-key m key p k l long);
+  }
+
+  -- the areas are not touched
+  q-above : (x : ℕ) → heap-base ≤ x → word q x ≡ word p x
+  unfolding j w
+  q-above x l =
+      past-current x (λ z. omega arith)
+      ∙ emptied-other j Channels c x (inr (omega arith)) (λ z. omega arith)
+      ∙ emptied-other w Jobs m x (inr (omega arith)) (λ z. omega arith)
+      ∙ wakes-other m key p x (λ i o g a b z. omega arith)
+
+  pub taken-tables : Taken p (taken p m c key) m c key
+  unfolding taken q j w
+  taken-tables = is-taken
+
+  pub taken-above : (x : ℕ) → heap-base ≤ x → word (taken p m c key) x ≡ word p x
+  unfolding taken q j w
+  taken-above x l = q-above x l
+
+-- the same, from a picture with the same tables
+pub taken-from : (p y q : List ℕ) (m c key : ℕ) → length y ≡ length p → ((x : ℕ) → x < heap-base → word y x ≡ word p x) → Taken y q m c key → Taken p q m c key
+taken-from p y q m c key long low T = record {
+  long = T .long ∙ long;
+  current = T .current;
+  head = λ x l n o r. T .head x l n o r ∙ low x (omega arith);
+  dies = T .dies;
+  stays = λ t k b. T .stays t k b ∙ uses t k;
+  blank = T .blank;
+  same = λ t k f l h b. T .same t k f l h b ∙ fields t k f l (four t f h);
+  gains = λ k l b. T .gains k l b ∙ fields Jobs k 4 l (omega arith);
+  frames = λ k l b. T .frames k l b ∙ rw (waited k l, fields Jobs k 5 l (omega arith));
+  wait = λ k l b. T .wait k l b ∙ rw (waited k l, fields Jobs k 6 l (omega arith));
+  gets = λ k l b. T .gets k l b ∙ rw (waited k l, fields Jobs k 7 l (omega arith));
+}
+  where
+    four : (t : Table) (f : ℕ) → f < 4 → f < width t
+    four Jobs f h = omega arith
+    four Channels f h = h
+
+    fields : (t : Table) (k f : ℕ) → k < positions t → f < width t → field y t k f ≡ field p t k f
+    fields t k f l h = let w = slot-within t k l in low (slot t k + f) (omega arith)
+
+    uses : (t : Table) (k : ℕ) → used y t k ≡ used p t k
+    uses Jobs k = used-same p y Jobs (low (mask-word Jobs) (omega arith)) k
+    uses Channels k = used-same p y Channels (low (mask-word Channels) (omega arith)) k
+
+    waited : (k : ℕ) → k < positions Jobs → waits y m k ≡ waits p m k
+    waited k l = waits-same p y m k (uses Jobs k) (fields Jobs k 6 l (omega arith))

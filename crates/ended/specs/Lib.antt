@@ -1,0 +1,2 @@
+-- What ending a tree promises.
+pub mod Promise

@@ -1,0 +1,22 @@
+-- "Takes the job and all descendants, with their blocks and channels. A job outside the tree waiting for one of them
+-- has timeout and wait 0 and D3 as key to deliver."
+use Prim.Native.Nat.{ℕ, _/_}
+use mathlib.Core.List.{List}
+use Rattle.picture.specs.Layout.{from, upto}
+use Rattle.picture.specs.Records.{base}
+use Rattle.picture.specs.declared.Table.the-variants.{Jobs}
+use Rattle.picture.specs.declared.Area.the-variants.{Heap, Transient}
+use Rattle.freeing.specs.Sweep.{swept}
+use Rattle.tree.specs.Tree.{tree}
+use Rattle.emptying.specs.Taken.{channels-of, taken}
+
+-- their job blocks, the top's own at a among them, plain blocks and queue blocks are given back; no block of the heap starts at 0
+abbrev pub no-block : ℕ
+no-block = 0
+
+unfoldable pub returned : List ℕ → ℕ → ℕ → List ℕ
+returned p m a = swept (swept p (from p Heap) (upto p Heap) m no-block) (from p Transient) (upto p Transient) m a
+
+-- the picture without the tree of the job at position t
+unfoldable pub ended : List ℕ → ℕ → ℕ → List ℕ
+ended p t key = taken (returned p (tree p t) (base p Jobs t / 4)) (tree p t) (channels-of p (tree p t)) key

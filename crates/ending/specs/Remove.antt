@@ -1,0 +1,48 @@
+-- Trap 1 $4, ordinary removal, and $5, forced removal: "live; job 0: -15; for $4, whole tree inactive. D1 to A3 become 0."
+use Prim.Native.Nat.{ℕ}
+use mathlib.Core.Bool.{Bool, _&&_, not, cond}
+use mathlib.Core.List.{List}
+use lib.Dec.{eqb}
+use Rattle.words.specs.Bits.{bit}
+use Rattle.words.specs.Each.{every}
+use Rattle.picture.specs.Layout.{positions}
+use Rattle.picture.specs.Records.{active}
+use Rattle.picture.specs.Numbers.{position, live}
+use Rattle.picture.specs.Keys.{not-complete, invalid-job, bad-parameter}
+use Rattle.picture.specs.declared.Table.the-variants.{Jobs}
+use Rattle.calls.specs.Outcome.{Outcome, refuse, succeed}
+use Rattle.calls.specs.Registers.{D1, D3, cleared, meant}
+use Rattle.tree.specs.Tree.{tree}
+use Rattle.ending.specs.Ended.{ended}
+
+-- the job at position k is no active member of the mask m
+unfoldable pub at-rest : List ℕ → ℕ → ℕ → Bool
+at-rest p m k = not (bit m k && active p k)
+
+-- "whole tree inactive"
+unfoldable pub inactive : List ℕ → ℕ → Bool
+inactive p m = every (at-rest p m) (positions Jobs)
+
+-- the job that D1 means, by its position
+abbrev pub asked : List ℕ → List ℕ → ℕ
+asked p d = position (meant p (D1 d))
+
+-- $4
+unfoldable pub remove : List ℕ → List ℕ → Outcome
+remove p d =
+    cond (live p Jobs (meant p (D1 d)))
+    (cond (not (eqb (asked p d) 0))
+    (cond (inactive p (tree p (asked p d)))
+    (succeed (ended p (asked p d) (D3 d)) (cleared d))
+    (refuse not-complete p d))
+    (refuse bad-parameter p d))
+    (refuse invalid-job p d)
+
+-- $5
+unfoldable pub force-remove : List ℕ → List ℕ → Outcome
+force-remove p d =
+    cond (live p Jobs (meant p (D1 d)))
+    (cond (not (eqb (asked p d) 0))
+    (succeed (ended p (asked p d) (D3 d)) (cleared d))
+    (refuse bad-parameter p d))
+    (refuse invalid-job p d)

@@ -1,0 +1,175 @@
+-- The longwords of a picture in which an entry was made.
+use Prim.Native.Nat.{ℕ, _+_, _≤_, _<_}
+use mathlib.Core.Path.{_≡_, ap, _∙_}
+use mathlib.Core.Logic.{⊎-elim, _⊎_, inl, inr}
+use mathlib.Core.List.{List}
+use lib.ListN.{length, length-set}
+use lib.Seq.{getD-set-same, getD-set-other}
+use native.Mathlib.Omega.{arith}
+use Rattle.words.specs.Words.{word, put, clear}
+use Rattle.words.proofs.Words.{length-clear}
+use Rattle.picture.specs.Layout.{heap-base, positions, width, first-record, mask-word, last-word}
+use Rattle.picture.specs.Records.{slot, field, number, owner, base}
+use Rattle.picture.specs.Numbers.{number-of}
+use Rattle.picture.specs.declared.Table.{Table}
+use Rattle.picture.specs.declared.Table.the-variants.{Jobs, Channels}
+use Rattle.picture.proofs.Records.{slot-within}
+use Rattle.headers.specs.Area.{Outside}
+use Rattle.headers.proofs.Clear.{clear-other, clear-zeros}
+use Rattle.masks.specs.Masks.{with-bit}
+use Rattle.entering.specs.Entry.{recorded, counted, entered}
+use Rattle.keeping.proofs.Tables.{TablesSame, mask-same}
+
+-- q is p with the entry of tag g at position k of the table t, of owner o and base b
+pub record Entered (p q : List ℕ) (t : Table) (k g o b : ℕ) : Type 0 where
+  pub long : length q ≡ length p
+  pub other : (j : ℕ) → j < heap-base → Outside (slot t k) (slot t k + width t) j → (j ≡ mask-word t → ⊥) → (j ≡ last-word t → ⊥) → word q j ≡ word p j
+  pub its-number : number q t k ≡ number-of g k
+  pub its-owner : owner q t k ≡ o
+  pub its-base : base q t k ≡ b
+  pub its-rest : (f : ℕ) → 3 ≤ f → f < width t → field q t k f ≡ 0
+  pub mask : word q (mask-word t) ≡ with-bit (word p (mask-word t)) k
+  pub last : word q (last-word t) ≡ g
+
+-- a record of w longwords at s that holds n, o and b
+module _ (p : List ℕ) (s w n o b : ℕ) (wide : 3 ≤ w) (inside : s + w ≤ length p) where
+  abbrev cleared : List ℕ
+  cleared = clear w p s
+
+  abbrev row : List ℕ
+  row = put (put (put (clear w p s) (s + 0) n) (s + 1) o) (s + 2) b
+
+  row-long : length row ≡ length p
+  row-long = simp length-set (length-clear w p s)
+
+  row-other : (j : ℕ) → Outside s (s + w) j → word row j ≡ word p j
+  row-other j h =
+      let x : (f : ℕ) → f < 3 → j ≡ s + f → ⊥ = λ f l e. ⊎-elim (λ (a : j < s). omega arith) (λ (a : s + w ≤ j). omega arith) h in
+      getD-set-other (put (put cleared (s + 0) n) (s + 1) o) (s + 2) j b 0 (x 2 (omega arith))
+      ∙ getD-set-other (put cleared (s + 0) n) (s + 1) j o 0 (x 1 (omega arith))
+      ∙ getD-set-other cleared (s + 0) j n 0 (x 0 (omega arith))
+      ∙ clear-other w p s j h
+
+  row-first : word row (s + 0) ≡ n
+  row-first =
+      getD-set-other (put (put cleared (s + 0) n) (s + 1) o) (s + 2) (s + 0) b 0 (λ e. omega arith)
+      ∙ getD-set-other (put cleared (s + 0) n) (s + 1) (s + 0) o 0 (λ e. omega arith)
+      ∙ getD-set-same cleared (s + 0) n 0 (rw (length-clear w p s) (omega arith))
+
+  row-second : word row (s + 1) ≡ o
+  row-second =
+      getD-set-other (put (put cleared (s + 0) n) (s + 1) o) (s + 2) (s + 1) b 0 (λ e. omega arith)
+      ∙ getD-set-same (put cleared (s + 0) n) (s + 1) o 0 (simp length-set (rw (length-clear w p s) (omega arith)))
+
+  row-third : word row (s + 2) ≡ b
+  row-third = getD-set-same (put (put cleared (s + 0) n) (s + 1) o) (s + 2) b 0 (simp length-set (rw (length-clear w p s) (omega arith)))
+
+  row-rest : (f : ℕ) → 3 ≤ f → f < w → word row (s + f) ≡ 0
+  row-rest f l m =
+      getD-set-other (put (put cleared (s + 0) n) (s + 1) o) (s + 2) (s + f) b 0 (λ e. omega arith)
+      ∙ getD-set-other (put cleared (s + 0) n) (s + 1) (s + f) o 0 (λ e. omega arith)
+      ∙ getD-set-other cleared (s + 0) (s + f) n 0 (λ e. omega arith)
+      ∙ clear-zeros w p s (s + f) inside (omega arith) (omega arith)
+
+-- where the mask and the last tag stand
+pub record Places (t : Table) : Type 0 where
+  pub wide : 3 ≤ width t
+  pub after : 8 ≤ first-record t
+  pub mask-low : mask-word t < 8
+  pub last-low : last-word t < 8
+  pub differ : mask-word t ≡ last-word t → ⊥
+
+pub places : (t : Table) → Places t
+places Jobs = record { wide = omega arith; after = omega arith; mask-low = omega arith; last-low = omega arith; differ = λ e. omega arith }
+places Channels = record { wide = omega arith; after = omega arith; mask-low = omega arith; last-low = omega arith; differ = λ e. omega arith }
+
+module _ (p : List ℕ) (t : Table) (k g o b : ℕ) (there : k < positions t) (whole : heap-base ≤ length p) where
+  fits : slot t k + width t ≤ length p
+  fits = let h = slot-within t k there in omega arith
+
+  abbrev R : List ℕ
+  R = recorded p t k (number-of g k) o b
+
+  abbrev Q : List ℕ
+  Q = entered p t k g o b
+
+  R-long : length R ≡ length p
+  unfolding recorded
+  R-long = row-long p (slot t k) (width t) (number-of g k) o b (places t .wide) fits
+
+  R-other : (j : ℕ) → Outside (slot t k) (slot t k + width t) j → word R j ≡ word p j
+  unfolding recorded
+  R-other = row-other p (slot t k) (width t) (number-of g k) o b (places t .wide) fits
+
+  Q-long : length Q ≡ length p
+  unfolding entered counted
+  Q-long = simp length-set R-long
+
+  -- past the mask and the last tag
+  Q-past : (j : ℕ) → (j ≡ mask-word t → ⊥) → (j ≡ last-word t → ⊥) → word Q j ≡ word R j
+  unfolding entered counted
+  Q-past j m l = getD-set-other (put R (mask-word t) (with-bit (word R (mask-word t)) k)) (last-word t) j g 0 l ∙ getD-set-other R (mask-word t) j (with-bit (word R (mask-word t)) k) 0 m
+
+  Q-above : (j : ℕ) → 8 ≤ j → word Q j ≡ word R j
+  Q-above j l = let a = places t .mask-low in let c = places t .last-low in Q-past j (λ e. omega arith) (λ e. omega arith)
+
+  of-record : (f : ℕ) → word Q (slot t k + f) ≡ word R (slot t k + f)
+  of-record f = let a = places t .after in Q-above (slot t k + f) (omega arith)
+
+  Q-number : number Q t k ≡ number-of g k
+  unfolding recorded
+  Q-number = of-record 0 ∙ row-first p (slot t k) (width t) (number-of g k) o b (places t .wide) fits
+
+  Q-owner : owner Q t k ≡ o
+  unfolding recorded
+  Q-owner = of-record 1 ∙ row-second p (slot t k) (width t) (number-of g k) o b (places t .wide) fits
+
+  Q-base : base Q t k ≡ b
+  unfolding recorded
+  Q-base = of-record 2 ∙ row-third p (slot t k) (width t) (number-of g k) o b (places t .wide) fits
+
+  Q-rest : (f : ℕ) → 3 ≤ f → f < width t → field Q t k f ≡ 0
+  unfolding recorded
+  Q-rest f l m = of-record f ∙ row-rest p (slot t k) (width t) (number-of g k) o b (places t .wide) fits f l m
+
+  Q-mask : word Q (mask-word t) ≡ with-bit (word p (mask-word t)) k
+  unfolding entered counted
+  Q-mask =
+      let a = places t .mask-low in
+      let c = places t .after in
+      getD-set-other (put R (mask-word t) (with-bit (word R (mask-word t)) k)) (last-word t) (mask-word t) g 0 (places t .differ)
+      ∙ getD-set-same R (mask-word t) (with-bit (word R (mask-word t)) k) 0 (rw R-long (omega arith))
+      ∙ ap (λ (x : ℕ). with-bit x k) (R-other (mask-word t) (inl (omega arith)))
+
+  Q-last : word Q (last-word t) ≡ g
+  unfolding entered counted
+  Q-last = let a = places t .last-low in getD-set-same (put R (mask-word t) (with-bit (word R (mask-word t)) k)) (last-word t) g 0 (simp length-set (rw R-long (omega arith)))
+
+  pub entered-is : Entered p (entered p t k g o b) t k g o b
+  entered-is = record {
+    long = Q-long;
+    other = λ j l h m n. Q-past j m n ∙ R-other j h;
+    its-number = Q-number;
+    its-owner = Q-owner;
+    its-base = Q-base;
+    its-rest = Q-rest;
+    mask = Q-mask;
+    last = Q-last;
+  }
+
+  -- the heap and the transient area are as they were
+  pub entering-keeps-the-areas : (j : ℕ) → heap-base ≤ j → word (entered p t k g o b) j ≡ word p j
+  entering-keeps-the-areas j l = let h = slot-within t k there in Q-above j (omega arith) ∙ R-other j (inr (omega arith))
+
+-- entering after a change that kept the tables
+pub entered-after : (p r q : List ℕ) (t : Table) (k g o b : ℕ) → TablesSame p r → Entered r q t k g o b → Entered p q t k g o b
+entered-after p r q t k g o b s E = record {
+  long = E .long ∙ s .long;
+  other = λ j l h m n. E .other j l h m n ∙ s .words j l;
+  its-number = E .its-number;
+  its-owner = E .its-owner;
+  its-base = E .its-base;
+  its-rest = E .its-rest;
+  mask = E .mask ∙ ap (λ (x : ℕ). with-bit x k) (mask-same p r s t);
+  last = E .last;
+}

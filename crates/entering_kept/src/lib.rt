@@ -1,0 +1,1 @@
+// What a new entry of a table keeps: laws only.

@@ -1,0 +1,137 @@
+use Rattle.jobs.proofs.Ways.{suspend-lost, suspend-bad, suspend-done}
+use Rattle.timeouts.specs.Timeout.{timeout-in}
+use Rattle.jobs.proofs.Found.{Found, found, lost}
+use mathlib.Core.Path.{ap, sym, _∙_}
+use borrow.Author.Needs.{needs}
+use Rattle.jobs.proofs.suspend.Statement.{statement}
+use Rattle.jobs.proofs.suspend.Tie as tie
+use Rattle.jobs.proofs.suspend.Reads as reads
+use Rattle.jobs.proofs.suspend.Lts as lts
+use Rattle.calls.proofs.number_meant.Reads as number-meant-reads
+use Rattle.calls.proofs.put_nobody.Reads as put-nobody-reads
+use Rattle.effects.proofs.is_suspension.Reads as is-suspension-reads
+use Rattle.effects.proofs.name_job.Reads as name-job-reads
+use Rattle.effects.proofs.put_suspension.Reads as put-suspension-reads
+use Rattle.picture.proofs.job_at.Reads as job-at-reads
+use Rattle.timeouts.proofs.longword_of.Reads as longword-of-reads
+use Rattle.timeouts.proofs.timeout_in.Reads as timeout-in-reads
+use Rattle.words.proofs.word.Reads as word-reads
+
+-- the job that D1 means is found
+here : (c : tie.After-k) → Found (c .before .before .before .before .before .before .before .before .before .before .args .p .now) (c .before .before .before .before .before .before .before .before .before .before .args .d .now) (c .before .before .before .before .number-meant .result .0) (c .k .given .0 .0)
+here c = found _ _ _ _ _ (c .before .before .before .before .before .word .ensures) (c .before .before .before .before .number-meant .ensures) (c .before .before .job-at .ensures) _ (c .k .given .1)
+
+-- src/lib.rt:110:41
+word-requires : tie.Need-word-requires
+word-requires c κs = search needs
+
+-- src/lib.rt:110:9
+number-meant-requires : tie.Need-number-meant-requires
+number-meant-requires c κs = search needs
+
+-- src/lib.rt:111:27
+job-at-requires : tie.Need-job-at-requires
+job-at-requires c κs = search needs
+
+-- src/lib.rt:111:22
+enum-known-k : tie.Need-enum-known-k
+enum-known-k c = search needs
+
+-- src/lib.rt:112:9
+enum-told : tie.Need-enum-told
+enum-told c = search needs
+
+-- src/lib.rt:112:9
+same-length : tie.Need-same-length
+same-length c = search needs
+
+-- src/lib.rt:112:9
+same-length-2 : tie.Need-same-length-2
+same-length-2 c = search needs
+
+-- src/lib.rt:112:9
+returns : tie.Need-returns
+returns c = suspend-lost _ _ (lost (c .before .before .before .before .before .before .before .before .before .before .args .p .now) (c .before .before .before .before .before .before .before .before .before .before .args .d .now) _ _ _ (c .before .before .before .before .before .word .ensures) (c .before .before .before .before .number-meant .ensures) (c .before .before .job-at .ensures) (c .enum-told .given .1))
+
+-- src/lib.rt:114:34
+word-requires-2 : tie.Need-word-requires-2
+word-requires-2 c κs = search needs
+
+-- src/lib.rt:114:9
+timeout-in-requires : tie.Need-timeout-in-requires
+timeout-in-requires c κs = search needs
+
+-- src/lib.rt:115:10
+is-suspension-requires : tie.Need-is-suspension-requires
+is-suspension-requires c κs = search needs
+
+-- src/lib.rt:115:30
+word-requires-3 : tie.Need-word-requires-3
+word-requires-3 c κs = search needs
+
+-- src/lib.rt:116:9
+same-length-3 : tie.Need-same-length-3
+same-length-3 c = search needs
+
+-- src/lib.rt:116:9
+same-length-4 : tie.Need-same-length-4
+same-length-4 c = search needs
+
+-- src/lib.rt:116:9
+returns-2 : tie.Need-returns-2
+returns-2 c = suspend-bad _ _ _ _ (here (c .before .before .before .before .before .before .before .before)) _ _ _ (c .before .before .before .before .timeout-in .ensures ∙ ap timeout-in (c .before .before .before .before .before .word2 .ensures)) (c .before .before .before .is-suspension .ensures) (c .before .word3 .ensures) (c .if1 .taken)
+
+-- src/lib.rt:118:26
+longword-of-requires : tie.Need-longword-of-requires
+longword-of-requires c κs = search needs
+
+-- src/lib.rt:118:5
+put-suspension-requires : tie.Need-put-suspension-requires
+put-suspension-requires c κs = here (c .before .before .before .before .before .before .before .before .before .before) .below
+
+-- src/lib.rt:119:5
+put-nobody-requires : tie.Need-put-nobody-requires
+put-nobody-requires c κs = search needs
+
+-- src/lib.rt:120:5
+name-job-requires : tie.Need-name-job-requires
+name-job-requires c κs = here (c .before .before .before .before .before .before .before .before .before .before .before .before .before .before .before .before .before .before) .below
+
+-- src/lib.rt:107:1
+same-length-5 : tie.Need-same-length-5
+same-length-5 c = search needs
+
+-- src/lib.rt:107:1
+same-length-6 : tie.Need-same-length-6
+same-length-6 c = search needs
+
+-- src/lib.rt:107:1
+returns-3 : tie.Need-returns-3
+returns-3 c = suspend-done _ _ _ _ (here (c .before .before .before .before .before .before .before .before .before .before .before .before .before .before .before .before .before .before .before .before .before)) _ _ _ (c .before .before .before .before .before .before .before .before .before .before .before .before .before .before .before .before .before .timeout-in .ensures ∙ ap timeout-in (c .before .before .before .before .before .before .before .before .before .before .before .before .before .before .before .before .before .before .word2 .ensures)) (c .before .before .before .before .before .before .before .before .before .before .before .before .before .before .before .before .is-suspension .ensures) (c .before .before .before .before .before .before .before .before .before .before .before .before .before .before .word3 .ensures) _ _ (c .before .before .before .before .before .before .before .before .before .before .before .before .before .if1 .left) (c .before .before .before .before .before .before .put-nobody .ensures ∙ rw (c .before .before .before .before .before .before .before .before .before .before .put-suspension .ensures, c .before .before .before .before .before .before .before .before .before .before .before .longword-of .ensures)) (c .before .before .name-job .ensures)
+
+pub suspend-spec : {M : Type 1} → statement M
+suspend-spec =
+    tie.close
+    (tie.spec
+    word-requires
+    number-meant-requires
+    job-at-requires
+    enum-known-k
+    enum-told
+    same-length
+    same-length-2
+    returns
+    word-requires-2
+    timeout-in-requires
+    is-suspension-requires
+    word-requires-3
+    same-length-3
+    same-length-4
+    returns-2
+    longword-of-requires
+    put-suspension-requires
+    put-nobody-requires
+    name-job-requires
+    same-length-5
+    same-length-6
+    returns-3)

@@ -1,0 +1,209 @@
+-- $0 and $8 to $B keep a sound picture sound, give no tag, and make nothing live.
+use Prim.Native.Nat.{ℕ, _+_, _*_, _%_, _≤_, _<_}
+use mathlib.Core.Path.{_≡_, refl, sym, ap, _∙_, subst}
+use mathlib.Core.Bool.{Bool, true, false, cond, not, _&&_}
+use mathlib.Core.Logic.{⊎-elim, _⊎_, inl, inr}
+use mathlib.Core.List.{List}
+use native.Mathlib.Omega.{arith}
+use lib.ListN.{length, set, length-set}
+use lib.Seq.{set-out}
+use lib.Dec.{leb, eqb}
+use borrow.Author.Tests.{leb-true}
+use Rattle.words.specs.Words.{word}
+use Rattle.words.proofs.Tests.{both, false-true}
+use Rattle.picture.specs.Layout.{nobody, current-word, positions, width, greatest-size}
+use Rattle.picture.specs.Records.{slot, field, number, priority, timeout, used, ready, active}
+use Rattle.picture.specs.Numbers.{position, live}
+use Rattle.picture.specs.declared.Table.{Table}
+use Rattle.picture.specs.declared.Table.the-variants.{Jobs}
+use Rattle.picture.proofs.Numbers.{Live, live-is}
+use Rattle.records.specs.Rules.{greatest-priority, greatest-timeout}
+use Rattle.sound.specs.Sound.{sound}
+use Rattle.facts.proofs.Sound.{Sizes, Current, Sound}
+use Rattle.facts.proofs.View.{view, sound-again}
+use Rattle.facts.proofs.Ages.{Ages, ages-still}
+use Rattle.timeouts.specs.Timeout.{timeout-in, timeout-of, low-half, longword}
+use Rattle.timeouts.specs.declared.Timeout.{Timeout}
+use Rattle.timeouts.specs.declared.Timeout.the-variants.{Zero, Frames, Endless, Bad}
+use Rattle.timeouts.proofs.Cases.{longword-within}
+use Rattle.calls.specs.Outcome.{Outcome}
+use Rattle.calls.specs.Registers.{D2, D3, caller}
+use Rattle.calls.specs.Writes.{with-field, with-nobody}
+use Rattle.steady.proofs.Steady.{Steady, Alike, steady-ages, steady-live, steady-used, steady-then}
+use Rattle.steady.proofs.Writes.{Written, steady-current, written-sound, written-nobody-sound, nobody-sound}
+use Rattle.effects.specs.Effects.{suspended, released, low-byte, prioritized, may-wait, endless, waiting}
+use Rattle.jobs.specs.Calls.{job, job-position, information, suspend, release, activate, set-priority}
+use Rattle.jobs.proofs.Refuses.{Way, suspend-success, release-success, activate-success, set-priority-success, suspend-way, release-way, activate-way, set-priority-way}
+use Rattle.jobs_kept.proofs.Effects.{suspended-written, suspended-turning, released-written, released-turning, prioritized-written, prioritized-turning, prioritized-current, awaiting-written, awaiting-turning}
+
+-- a call keeps soundness and ages if its success does
+abbrev Picture : Outcome → List ℕ
+Picture o = o .picture
+
+kept-sound : (p d : List ℕ) (x o : Outcome) (C : Type 0) → Way p d x o C → sound p ≡ true → (C → Sound (Picture x)) → sound (Picture o) ≡ true
+kept-sound p d x o C w h s = ⊎-elim
+    (λ r. rw (r .0) h)
+    (λ z. ap (λ (y : Outcome). sound (Picture y)) (z .0) ∙ sound-again (Picture x) (s (z .1)))
+    w
+
+kept-ages : (p d : List ℕ) (x o : Outcome) (C : Type 0) (t : Table) → Way p d x o C → (C → Steady p (Picture x)) → Ages p (Picture o) t
+kept-ages p d x o C t w s = ⊎-elim
+    (λ r. subst (λ (q : List ℕ). Ages p q t) (sym (r .0)) (ages-still p t))
+    (λ z. subst (λ (y : Outcome). Ages p (Picture y) t) (sym (z .0)) (steady-ages p (Picture x) (s (z .1)) t))
+    w
+
+nobody-steady : (p q : List ℕ) → Steady p q → Steady p (with-nobody q)
+nobody-steady p q s = steady-then p q (with-nobody q) s (steady-current q nobody)
+
+-- a live number's position is in use
+at-used : (p : List ℕ) (n : ℕ) → live p Jobs n ≡ true → used p Jobs (position n) ≡ true
+at-used p n l = live-is p Jobs n l .used
+
+-- $0
+pub information-keeps-sound : (p d : List ℕ) → sound p ≡ true → sound (information p d .picture) ≡ true
+unfolding information
+information-keeps-sound p d h = h
+
+pub information-ages : (p d : List ℕ) → sound p ≡ true → (t : Table) → Ages p (information p d .picture) t
+unfolding information
+information-ages p d h t = ages-still p t
+
+-- $8
+pub suspend-keeps-sound : (p d : List ℕ) → sound p ≡ true → sound (suspend p d .picture) ≡ true
+suspend-keeps-sound p d h =
+    let S = view p h in
+    kept-sound p d (suspend-success p d) (suspend p d) _ (suspend-way p d) h (λ z.
+    let u = at-used p (job p d) (z .0) in
+    let t = longword (timeout-in (D3 d)) in
+    written-nobody-sound p (suspended p (job-position p d) t) (job-position p d) S (suspended-written p S (job-position p d) u t) (suspended-turning p S (job-position p d) u t (longword-within (low-half (D3 d)))))
+
+pub suspend-ages : (p d : List ℕ) → sound p ≡ true → (t : Table) → Ages p (suspend p d .picture) t
+suspend-ages p d h t =
+    let S = view p h in
+    kept-ages p d (suspend-success p d) (suspend p d) _ t (suspend-way p d) (λ z.
+    nobody-steady p (suspended p (job-position p d) (longword (timeout-in (D3 d)))) (suspended-written p S (job-position p d) (at-used p (job p d) (z .0)) (longword (timeout-in (D3 d))) .steady))
+
+-- $9
+pub release-keeps-sound : (p d : List ℕ) → sound p ≡ true → sound (release p d .picture) ≡ true
+release-keeps-sound p d h =
+    let S = view p h in
+    kept-sound p d (release-success p d) (release p d) _ (release-way p d) h (λ z.
+    let u = at-used p (job p d) (z .0) in
+    written-nobody-sound p (released p (job-position p d)) (job-position p d) S (released-written p S (job-position p d) u) (released-turning p S (job-position p d) u))
+
+pub release-ages : (p d : List ℕ) → sound p ≡ true → (t : Table) → Ages p (release p d .picture) t
+release-ages p d h t =
+    let S = view p h in
+    kept-ages p d (release-success p d) (release p d) _ t (release-way p d) (λ z. nobody-steady p (released p (job-position p d)) (released-written p S (job-position p d) (at-used p (job p d) (z .0)) .steady))
+
+-- $B
+pub set-priority-keeps-sound : (p d : List ℕ) → sound p ≡ true → sound (set-priority p d .picture) ≡ true
+set-priority-keeps-sound p d h =
+    let S = view p h in
+    kept-sound p d (set-priority-success p d) (set-priority p d) _ (set-priority-way p d) h (λ z.
+    let u = at-used p (job p d) (z .0) in
+    let v = low-byte (D2 d) in
+    written-nobody-sound p (prioritized p (job-position p d) v) (job-position p d) S (prioritized-written p S (job-position p d) u v) (prioritized-turning p S (job-position p d) u v (leb-true v greatest-priority (z .1 .0))))
+
+pub set-priority-ages : (p d : List ℕ) → sound p ≡ true → (t : Table) → Ages p (set-priority p d .picture) t
+set-priority-ages p d h t =
+    let S = view p h in
+    kept-ages p d (set-priority-success p d) (set-priority p d) _ t (set-priority-way p d) (λ z.
+    nobody-steady p (prioritized p (job-position p d) (low-byte (D2 d))) (prioritized-written p S (job-position p d) (at-used p (job p d) (z .0)) (low-byte (D2 d)) .steady))
+
+-- $A: the caller is ready and the job named is not active, so they are two
+module _ (p : List ℕ) (S : Sound p) (n v : ℕ) (lives : live p Jobs n ≡ true) (idle : active p (position n) ≡ false) where
+  abbrev k : ℕ
+  k = position n
+
+  abbrev q : List ℕ
+  q = prioritized p k v
+
+  abbrev c : ℕ
+  c = position (caller p)
+
+  k-used : used p Jobs k ≡ true
+  k-used = at-used p n lives
+
+  changed : Written p q k
+  changed = prioritized-written p S k k-used v
+
+  two : ready p c ≡ true → c ≡ k → ⊥
+  unfolding ready active
+  two r e = false-true (sym idle ∙ subst (λ (x : ℕ). leb 1 (priority p x) ≡ true) e (both (leb 1 (priority p c)) (eqb (timeout p c) 0) r .0))
+
+  still-ready : ready p c ≡ true → ready q c ≡ true
+  unfolding ready
+  still-ready r = let a = changed .others c (two r) in rw (a 3 (omega arith), a 5 (omega arith)) r
+
+  still-current : Current p → Current q
+  still-current (inl e) = inl (prioritized-current p S k k-used v ∙ e)
+  still-current (inr e) =
+      let w = prioritized-current p S k k-used v in
+      inr (rw w (steady-live p q (changed .steady) Jobs (caller p) ∙ e .0), rw w (still-ready (e .1)))
+
+  -- the job named has its priority: sound again, the caller still current
+  raised : v ≤ greatest-priority → Sound q
+  raised l = written-sound p q k S changed (prioritized-turning p S k k-used v l) (still-current (S .current))
+
+  -- where nobody is current there is no record to wait in
+  past-end : (x : List ℕ) (f w : ℕ) → length x ≤ greatest-size → caller p ≡ nobody → with-field x Jobs c f w ≡ x
+  past-end x f w l e = let z : position (caller p) ≡ 65535 = rw e refl in set-out x (slot Jobs c + f) w (omega arith)
+
+  abbrev c3 : List ℕ
+  c3 = with-field (with-field (with-field q Jobs c 5 nobody) Jobs c 4 0) Jobs c 6 n
+
+  nowhere : caller p ≡ nobody → c3 ≡ q
+  nowhere e =
+      let l : length q ≤ greatest-size = rw (changed .steady .long) (S .sizes .most) in
+      rw (past-end q 5 nobody l e, past-end q 4 0 l e, past-end q 6 n l e)
+
+  -- the caller waits for the job named, which is another live one
+  module _ (l : v ≤ greatest-priority) (cl : live p Jobs (caller p) ≡ true) (cr : ready p c ≡ true) where
+    c-used : used q Jobs c ≡ true
+    c-used = steady-used p q (changed .steady) Jobs c ∙ at-used p (caller p) cl
+
+    other : n ≡ number q Jobs c → ⊥
+    other e =
+        let b = live-is p Jobs (caller p) cl in
+        two cr (ap position (sym (b .names) ∙ sym (changed .others c (two cr) 0 (omega arith)) ∙ sym e))
+
+    waiting-sound : Sound (with-nobody c3)
+    waiting-sound = written-nobody-sound q c3 c (raised l) (awaiting-written q (raised l) c c-used n)
+        (awaiting-turning q (raised l) c c-used n (steady-live p q (changed .steady) Jobs n ∙ lives) other)
+
+    waiting-steady : Steady p c3
+    waiting-steady = steady-then p q c3 (changed .steady) (awaiting-written q (raised l) c c-used n .steady)
+
+  module _ (t : Timeout) (l : v ≤ greatest-priority) where
+    activated-sound : Sound (with-nobody (waiting q t c n))
+    unfolding waiting
+    activated-sound = go (endless t) (S .current)
+      where
+        go : (b : Bool) → Current p → Sound (with-nobody (cond b c3 q))
+        go false z = nobody-sound q (raised l)
+        go true (inl e) = rw (nowhere e) (nobody-sound q (raised l))
+        go true (inr e) = waiting-sound l (e .0) (e .1)
+
+    activated-steady : Steady p (waiting q t c n)
+    unfolding waiting
+    activated-steady = go (endless t) (S .current)
+      where
+        go : (b : Bool) → Current p → Steady p (cond b c3 q)
+        go false z = changed .steady
+        go true (inl e) = rw (nowhere e) (changed .steady)
+        go true (inr e) = waiting-steady l (e .0) (e .1)
+
+good-priority : (v : ℕ) → leb 1 v && leb v greatest-priority ≡ true → v ≤ greatest-priority
+good-priority v h = leb-true v greatest-priority (both (leb 1 v) (leb v greatest-priority) h .1)
+
+pub activate-keeps-sound : (p d : List ℕ) → sound p ≡ true → sound (activate p d .picture) ≡ true
+activate-keeps-sound p d h =
+    kept-sound p d (activate-success p d) (activate p d) _ (activate-way p d) h (λ z.
+    activated-sound p (view p h) (job p d) (low-byte (D2 d)) (z .0) (z .1 .0) (timeout-in (D3 d)) (good-priority (low-byte (D2 d)) (z .1 .1 .0)))
+
+pub activate-ages : (p d : List ℕ) → sound p ≡ true → (t : Table) → Ages p (activate p d .picture) t
+activate-ages p d h t =
+    kept-ages p d (activate-success p d) (activate p d) _ t (activate-way p d) (λ z.
+    let q = waiting (prioritized p (job-position p d) (low-byte (D2 d))) (timeout-in (D3 d)) (position (caller p)) (job p d) in
+    nobody-steady p q (activated-steady p (view p h) (job p d) (low-byte (D2 d)) (z .0) (z .1 .0) (timeout-in (D3 d)) (good-priority (low-byte (D2 d)) (z .1 .1 .0))))

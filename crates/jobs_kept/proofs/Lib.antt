@@ -1,0 +1,4 @@
+-- What the calls of jobs keep.
+pub mod Effects
+pub mod Kept
+pub mod Corners

@@ -1,0 +1,1 @@
+-- The calls of jobs keep a sound picture sound, and tags rise: this crate has laws only.

@@ -1,0 +1,69 @@
+-- `lines::reading::read_bytes` meets its contract: storing what is left gives what storing all gives; the measure is how many are left. Assumes nothing.
+use native.Mathlib.Nat.{sub-zero}
+use mathlib.Core.Path.{_≡_, refl, sym, _∙_}
+use Prim.Native.Nat.{_≤_, _-_, _+_, _*_}
+use lib.ListN.{length, length-set}
+use lib.Seq.{sets}
+use Rattle.lines.specs.Digits.{numbers}
+use Rattle.lines.proofs.Reader.{numbers-more, numbers-end}
+use borrow.Author.Needs.{needs}
+use native.Mathlib.Omega.{arith}
+use Rattle.lines.proofs.reading.read_bytes.Statement.{statement}
+use Rattle.lines.proofs.reading.read_bytes.Tie as tie
+
+abbrev Inv-loop : tie.InvT-loop
+Inv-loop text place count bytes₀ i₀ k₀ bytes i k = (k ≤ count) × (i ≡ place + 2 * k) × (length bytes ≡ length bytes₀) × (sets bytes₀ 0 (numbers text place 2 count) ≡ sets bytes k (numbers text i 2 (count - k)))
+
+abbrev μ-loop : tie.MeasureT-loop
+μ-loop text place count bytes₀ i₀ k₀ bytes i k = count - k
+
+loop-holds : tie.Need-loop-holds Inv-loop μ-loop
+loop-holds c = (omega arith, omega arith, refl, rw sub-zero)
+
+number-at-requires : tie.Need-number-at-requires Inv-loop μ-loop
+number-at-requires c κs = omega arith
+
+cast-put-byte : tie.Need-cast-put-byte Inv-loop μ-loop
+cast-put-byte c = search needs
+
+put-byte-requires : tie.Need-put-byte-requires Inv-loop μ-loop
+put-byte-requires c κs = search needs
+
+add-i : tie.Need-add-i Inv-loop μ-loop
+add-i c = search needs
+
+add-k : tie.Need-add-k Inv-loop μ-loop
+add-k c = search needs
+
+loop-less : tie.Need-loop-less Inv-loop μ-loop
+loop-less c = search needs
+
+loop-again : tie.Need-loop-again Inv-loop μ-loop
+loop-again c =
+    let p = c .before .before in
+    let l = p .before .before .before in
+    let d = l .before .loop in
+    (omega arith, omega arith, rw (p .put-byte .ensures) (simp length-set (d .inv .2)), d .inv .3 ∙ numbers-more _ _ _ 2 _ _ (l .loop-test .taken) ∙ rw (p .put-byte .ensures, p .before .number-at .ensures .0))
+
+same-length : tie.Need-same-length Inv-loop μ-loop
+same-length c = search needs
+
+returns : tie.Need-returns Inv-loop μ-loop
+returns c = let d = c .before .loop in sym (d .inv .3 ∙ numbers-end _ _ _ 2 _ _ (c .loop-test .left))
+
+pub read-bytes-spec : {M : Type 1} → statement M
+read-bytes-spec =
+    tie.close
+    (tie.spec
+    Inv-loop
+    μ-loop
+    loop-holds
+    number-at-requires
+    cast-put-byte
+    put-byte-requires
+    add-i
+    add-k
+    loop-less
+    loop-again
+    same-length
+    returns)

@@ -1,0 +1,63 @@
+-- The checks of the door, one after the other.
+use Prim.Native.Nat.{ℕ}
+use mathlib.Core.Path.{_≡_, refl, sym, ap, _∙_}
+use mathlib.Core.Bool.{true, false}
+use mathlib.Core.List.{List}
+use lib.IntN.{ℤ}
+use lib.ListN.{length}
+use lib.Dec.{eqb}
+use mir.Syntax.{w32}
+use mir.Val.{ofZ}
+use borrow.Author.Tests.{eq-eqb, ne-eqb}
+use Rattle.words.specs.Words.{word, put}
+use Rattle.picture.specs.Layout.{nobody}
+use Rattle.picture.specs.Keys.{invalid-job, bad-parameter, not-sound}
+use Rattle.sound.specs.Sound.{sound}
+use Rattle.calls.specs.Outcome.{Outcome, refuse, Meets}
+use Rattle.calls.specs.Registers.{caller}
+use Rattle.manager.specs.Door.{trap-one, trap-two, trap-three, named, checked, with-key, called}
+
+module _ (trap : ℕ) (p d name : List ℕ) where
+  pub checked-unsound : sound p ≡ false → checked trap p d name ≡ refuse not-sound p d
+  unfolding checked
+  checked-unsound s = rw s
+
+  pub checked-nobody : sound p ≡ true → caller p ≡ nobody → checked trap p d name ≡ refuse invalid-job p d
+  unfolding checked
+  checked-nobody s n = rw (s, eq-eqb (caller p) nobody n)
+
+  pub checked-named : sound p ≡ true → (caller p ≡ nobody → ⊥) → checked trap p d name ≡ named trap p d name
+  unfolding checked
+  checked-named s n = rw (s, ne-eqb (caller p) nobody n)
+
+  pub named-one : trap ≡ 1 → named trap p d name ≡ trap-one (word d 0) p d
+  unfolding named
+  named-one e = rw e
+
+  pub named-two : trap ≡ 2 → named trap p d name ≡ trap-two (word d 0) p d name
+  unfolding named
+  named-two e = rw e
+
+  pub named-three : trap ≡ 3 → named trap p d name ≡ trap-three (word d 0) p d
+  unfolding named
+  named-three e = rw e
+
+  pub named-unknown : (trap ≡ 1 → ⊥) → (trap ≡ 2 → ⊥) → (trap ≡ 3 → ⊥) → named trap p d name ≡ refuse bad-parameter p d
+  unfolding named
+  named-unknown a b c = rw (ne-eqb trap 1 a, ne-eqb trap 2 b, ne-eqb trap 3 c)
+
+  pub called-otherwise : (length d ≡ 8 → ⊥) → called trap p d name ≡ refuse bad-parameter p d
+  unfolding called
+  called-otherwise n = rw (ne-eqb (length d) 8 n)
+
+  pub called-with-eight : length d ≡ 8 → called trap p d name ≡ with-key (checked trap p d name)
+  unfolding called
+  called-with-eight e = rw (eq-eqb (length d) 8 e)
+
+-- what meets an outcome meets one that equals it
+pub meets-equal : (o u : Outcome) (r : ℤ) (p d : List ℕ) → o ≡ u → Meets u r p d → Meets o r p d
+meets-equal o u r p d e m = rw e m
+
+-- once D0 has the key
+pub meets-with-key : (o : Outcome) (r : ℤ) (p d : List ℕ) → Meets o r p d → Meets (with-key o) r p (put d 0 (ofZ w32 r))
+meets-with-key o r p d m = record { answers = m .answers; leaves = m .leaves; gives = rw (m .gives, m .answers) }

@@ -1,0 +1,45 @@
+use Rattle.manager.specs.Turn.{tick-key, ticking}
+use borrow.Author.Tests.{not-true, not-false}
+use mathlib.Core.Path.{refl, sym, _∙_}
+use borrow.Author.Needs.{needs}
+use Rattle.manager.proofs.tick.Statement.{statement}
+use Rattle.manager.proofs.tick.Tie as tie
+use Rattle.manager.proofs.tick.Reads as reads
+use Rattle.manager.proofs.tick.Lts as lts
+use Rattle.sound.proofs.is_sound.Reads as is-sound-reads
+use Rattle.turns.proofs.tick_frame.Reads as tick-frame-reads
+
+-- src/lib.rt:87:9
+is-sound-requires : tie.Need-is-sound-requires
+is-sound-requires c κs = search needs
+
+-- src/lib.rt:88:9
+same-length : tie.Need-same-length
+same-length c = search needs
+
+-- src/lib.rt:88:9
+returns : tie.Need-returns
+unfolding tick-key ticking
+returns c = let s = sym (c .before .is-sound .ensures) ∙ not-true _ (c .if1 .taken) in (rw s, rw s)
+
+-- src/lib.rt:90:5
+tick-frame-requires : tie.Need-tick-frame-requires
+tick-frame-requires c κs = search needs
+
+-- src/lib.rt:84:1
+same-length-2 : tie.Need-same-length-2
+same-length-2 c = search needs
+
+-- src/lib.rt:84:1
+returns-2 : tie.Need-returns-2
+unfolding tick-key ticking
+returns-2 c =
+    let d = c .before .before in
+    let e = d .before .before in
+    let s = sym (e .before .is-sound .ensures) ∙ not-false _ (e .if1 .left) in
+    (rw s, rw s (d .tick-frame .ensures))
+
+pub tick-spec : {M : Type 1} → statement M
+tick-spec =
+    tie.close
+    (tie.spec is-sound-requires same-length returns tick-frame-requires same-length-2 returns-2)

@@ -1,0 +1,147 @@
+-- Laws of specs/Masks.antt: setting or clearing a bit is seen at that bit and at no other.
+use Prim.Native.Nat.{ℕ, zero, suc, _+_, _-_, _*_, _/_, _%_, _^_, _≤_, _<_}
+use mathlib.Core.Path.{_≡_, refl, sym, ap, _∙_}
+use mathlib.Core.Bool.{Bool, true, false, _&&_, _||_, not, cond}
+use mathlib.Core.Logic.{⊎-elim, _⊎_, inl, inr}
+use lib.Dec.{eqb}
+use lib.Pow.{pow-pos, shl-exact}
+use native.Mathlib.Nat.{pow-suc, div-div-eq-div-mul, mul-comm, one-mul}
+use native.Mathlib.Omega.{arith}
+use borrow.Author.Tests.{eqb-true, eqb-false, eq-eqb, ne-eqb}
+use Rattle.words.specs.Bits.{bit}
+use Rattle.words.proofs.Tests.{false-true}
+use Rattle.masks.specs.Masks.{with-bit, without-bit}
+
+-- 1 shifted by k
+pub one-shifted : (k : ℕ) → k < 32 → (1 * 2 ^ k) % 4294967296 ≡ 2 ^ k
+one-shifted k h = shl-exact {a = 1} 1 k 32 (omega arith) (omega arith) ∙ one-mul (2 ^ k)
+
+-- bit k + 1 is bit k of the half
+half-bit : (m k : ℕ) → m / 2 ^ suc k ≡ m / 2 / 2 ^ k
+half-bit m k = ap (λ (x : ℕ). m / x) (pow-suc 2 k ∙ mul-comm (2 ^ k) 2) ∙ sym (div-div-eq-div-mul m 2 (2 ^ k))
+
+-- adding 2 ^ k to a mask whose bit k is clear
+added-here : (k m : ℕ) → m / 2 ^ k % 2 ≡ 0 → (m + 2 ^ k) / 2 ^ k % 2 ≡ 1
+added-here zero m h = omega arith
+added-here (suc k) m h =
+    let q : 2 ^ suc k ≡ 2 ^ k * 2 = pow-suc 2 k in
+    let a : (m + 2 ^ suc k) / 2 ≡ m / 2 + 2 ^ k = omega arith in
+    rw (half-bit (m + 2 ^ suc k) k, a) (added-here k (m / 2) (rw (half-bit m k) at h))
+
+added-other : (k j m : ℕ) → m / 2 ^ k % 2 ≡ 0 → (j ≡ k → ⊥) → (m + 2 ^ k) / 2 ^ j % 2 ≡ m / 2 ^ j % 2
+added-other zero zero m h n = absurd (n refl)
+added-other zero (suc j) m h n =
+    let a : (m + 1) / 2 ≡ m / 2 = omega arith in
+    rw (half-bit (m + 1) j, half-bit m j, a)
+added-other (suc k) zero m h n = let q : 2 ^ suc k ≡ 2 ^ k * 2 = pow-suc 2 k in omega arith
+added-other (suc k) (suc j) m h n =
+    let q : 2 ^ suc k ≡ 2 ^ k * 2 = pow-suc 2 k in
+    let a : (m + 2 ^ suc k) / 2 ≡ m / 2 + 2 ^ k = omega arith in
+    rw (half-bit (m + 2 ^ suc k) j, half-bit m j, a) (added-other k j (m / 2) (rw (half-bit m k) at h) (λ e. n (ap suc e)))
+
+-- a mask whose bit k is set holds 2 ^ k, and without it the bit is clear
+pub held : (k m : ℕ) → m / 2 ^ k % 2 ≡ 1 → (2 ^ k ≤ m) × ((m - 2 ^ k) / 2 ^ k % 2 ≡ 0)
+held zero m h = (omega arith, omega arith)
+held (suc k) m h =
+    let q : 2 ^ suc k ≡ 2 ^ k * 2 = pow-suc 2 k in
+    let i = held k (m / 2) (rw (half-bit m k) at h) in
+    let l = i .0 in
+    let a : (m - 2 ^ suc k) / 2 ≡ m / 2 - 2 ^ k = omega arith in
+    (omega arith, rw (half-bit (m - 2 ^ suc k) k, a) (i .1))
+
+-- a bit is 0 or 1
+pub clear-is : (m k : ℕ) → bit m k ≡ false → m / 2 ^ k % 2 ≡ 0
+clear-is m k h = let n = eqb-false (m / 2 ^ k % 2) 1 h in omega arith
+
+pub sum-fits : (w k m : ℕ) → k < w → m < 2 ^ w → m / 2 ^ k % 2 ≡ 0 → m + 2 ^ k < 2 ^ w
+sum-fits zero k m l h z = absurd (omega arith)
+sum-fits (suc w) zero m l h z = let q : 2 ^ suc w ≡ 2 ^ w * 2 = pow-suc 2 w in omega arith
+sum-fits (suc w) (suc k) m l h z =
+    let q : 2 ^ suc w ≡ 2 ^ w * 2 = pow-suc 2 w in
+    let r : 2 ^ suc k ≡ 2 ^ k * 2 = pow-suc 2 k in
+    let i = sum-fits w k (m / 2) (omega arith) (omega arith) (rw (half-bit m k) at z) in
+    omega arith
+
+module _ (m k : ℕ) where
+  pub with-bit-set : bit m k ≡ true → with-bit m k ≡ m
+  unfolding with-bit
+  with-bit-set h = rw h
+
+  pub with-bit-added : bit m k ≡ false → with-bit m k ≡ m + 2 ^ k
+  unfolding with-bit
+  with-bit-added h = rw h
+
+  pub without-bit-clear : bit m k ≡ false → without-bit m k ≡ m
+  unfolding without-bit
+  without-bit-clear h = rw h
+
+  pub without-bit-taken : bit m k ≡ true → without-bit m k ≡ m - 2 ^ k
+  unfolding without-bit
+  without-bit-taken h = rw h
+
+  -- the bit is set, every other stays
+  pub with-bit-here : bit (with-bit m k) k ≡ true
+  with-bit-here = go (bit m k) refl
+    where
+      go : (b : Bool) → bit m k ≡ b → bit (with-bit m k) k ≡ true
+      go true h = ap (λ (x : ℕ). bit x k) (with-bit-set h) ∙ h
+      go false h = ap (λ (x : ℕ). bit x k) (with-bit-added h) ∙ eq-eqb _ _ (added-here k m (clear-is m k h))
+
+  pub with-bit-other : (j : ℕ) → (j ≡ k → ⊥) → bit (with-bit m k) j ≡ bit m j
+  with-bit-other j n = go (bit m k) refl
+    where
+      go : (b : Bool) → bit m k ≡ b → bit (with-bit m k) j ≡ bit m j
+      go true h = ap (λ (x : ℕ). bit x j) (with-bit-set h)
+      go false h = ap (λ (x : ℕ). bit x j) (with-bit-added h) ∙ ap (λ (x : ℕ). eqb x 1) (added-other k j m (clear-is m k h) n)
+
+  -- the bit is clear, every other stays
+  pub without-bit-here : bit (without-bit m k) k ≡ false
+  without-bit-here = go (bit m k) refl
+    where
+      go : (b : Bool) → bit m k ≡ b → bit (without-bit m k) k ≡ false
+      go true h =
+          let e = held k m (eqb-true _ _ h) .1 in
+          ap (λ (x : ℕ). bit x k) (without-bit-taken h) ∙ ne-eqb ((m - 2 ^ k) / 2 ^ k % 2) 1 (λ z. omega arith)
+      go false h = ap (λ (x : ℕ). bit x k) (without-bit-clear h) ∙ h
+
+  pub without-bit-other : (j : ℕ) → (j ≡ k → ⊥) → bit (without-bit m k) j ≡ bit m j
+  without-bit-other j n = go (bit m k) refl
+    where
+      go : (b : Bool) → bit m k ≡ b → bit (without-bit m k) j ≡ bit m j
+      go true h =
+          let e = held k m (eqb-true _ _ h) in
+          let l = e .0 in
+          let back : m - 2 ^ k + 2 ^ k ≡ m = omega arith in
+          ap (λ (x : ℕ). bit x j) (without-bit-taken h)
+          ∙ ap (λ (x : ℕ). eqb x 1) (sym (added-other k j (m - 2 ^ k) (e .1) n) ∙ ap (λ (x : ℕ). x / 2 ^ j % 2) back)
+      go false h = ap (λ (x : ℕ). bit x j) (without-bit-clear h)
+
+  -- both laws in one line each
+  pub with-bit-at : (j : ℕ) → bit (with-bit m k) j ≡ eqb j k || bit m j
+  with-bit-at j = go (eqb j k) refl
+    where
+      go : (b : Bool) → eqb j k ≡ b → bit (with-bit m k) j ≡ b || bit m j
+      go true e = ap (bit (with-bit m k)) (eqb-true j k e) ∙ with-bit-here
+      go false e = with-bit-other j (eqb-false j k e)
+
+  pub without-bit-at : (j : ℕ) → bit (without-bit m k) j ≡ not (eqb j k) && bit m j
+  without-bit-at j = go (eqb j k) refl
+    where
+      go : (b : Bool) → eqb j k ≡ b → bit (without-bit m k) j ≡ not b && bit m j
+      go true e = ap (bit (without-bit m k)) (eqb-true j k e) ∙ without-bit-here
+      go false e = without-bit-other j (eqb-false j k e)
+
+-- a mask of w bits stays one
+pub with-bit-fits : (w m k : ℕ) → k < w → m < 2 ^ w → with-bit m k < 2 ^ w
+with-bit-fits w m k l h = go (bit m k) refl
+  where
+    go : (b : Bool) → bit m k ≡ b → with-bit m k < 2 ^ w
+    go true e = rw (with-bit-set m k e) h
+    go false e = rw (with-bit-added m k e) (sum-fits w k m l h (clear-is m k e))
+
+pub without-bit-le : (m k : ℕ) → without-bit m k ≤ m
+without-bit-le m k = go (bit m k) refl
+  where
+    go : (b : Bool) → bit m k ≡ b → without-bit m k ≤ m
+    go true e = rw (without-bit-taken m k e) (omega arith)
+    go false e = rw (without-bit-clear m k e) (omega arith)

@@ -1,0 +1,1 @@
+// What the calls on memory keep and refuse: laws only.

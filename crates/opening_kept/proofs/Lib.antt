@@ -1,0 +1,6 @@
+-- What opening a channel keeps.
+pub mod Ways
+pub mod Room
+pub mod Opened
+pub mod Kept
+pub mod Open

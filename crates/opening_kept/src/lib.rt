@@ -1,0 +1,1 @@
+// What opening a channel keeps: laws only.

@@ -1,0 +1,131 @@
+-- Demands 1 and 2, of one call.
+use Prim.Native.Nat.{ℕ}
+use mathlib.Core.Path.{_≡_, refl, sym, ap, _∙_}
+use mathlib.Core.Bool.{Bool, true, false, cond}
+use mathlib.Core.List.{List}
+use lib.ListN.{length}
+use lib.Dec.{eqb}
+use borrow.Author.Tests.{eqb-true, eqb-false, eq-eqb, ne-eqb}
+use Rattle.picture.specs.Layout.{nobody}
+use Rattle.picture.specs.Keys.{done, invalid-job, bad-parameter, not-sound}
+use Rattle.sound.specs.Sound.{sound}
+use Rattle.calls.specs.Outcome.{Outcome, refuse, Meets}
+use Rattle.calls.specs.Registers.{caller}
+use Rattle.manager.specs.Door.{named, checked, with-key, called}
+use Rattle.manager.specs.Turn.{pick-picture, ticking}
+use Rattle.turns.specs.Pick.{picked}
+use Rattle.turns.specs.Tick.{ticked}
+use Rattle.turned.proofs.Pick.{pick-keeps-sound}
+use Rattle.turned.proofs.Tick.{tick-keeps-sound}
+use Rattle.manager.proofs.Door.{checked-unsound, called-otherwise, called-with-eight}
+use Rattle.promises.specs.Door.{OnlyKeyWritten, RefusalWritesOnlyD0, OtherRegistersRefused, Unsound, UnsoundIsRefused, CallKeepsSound, PickKeepsSound, TickKeepsSound, Same, WhateverMeetsIsEqual}
+use Rattle.promises.proofs.Calls.{EachCall, each-call}
+use Rattle.jobs.proofs.Refuses.{information-refuses, suspend-refuses, release-refuses, activate-refuses, set-priority-refuses}
+use Rattle.asking.proofs.Call.{ask-refuses, ask-keeps-sound}
+use Rattle.creating_kept.proofs.Refuses.{create-refuses}
+use Rattle.creating_kept.proofs.Kept.{create-keeps-sound}
+use Rattle.ended.proofs.Calls.{remove-refuses, force-remove-refuses, remove-keeps-sound, force-remove-keeps-sound}
+use Rattle.memory_kept.proofs.Refuses.{longest-room-refuses, take-refuses, give-back-refuses}
+use Rattle.memory_kept.proofs.Kept.{longest-room-keeps-sound, take-keeps-sound, give-back-keeps-sound}
+use Rattle.jobs_kept.proofs.Kept.{information-keeps-sound, suspend-keeps-sound, release-keeps-sound, activate-keeps-sound, set-priority-keeps-sound}
+use Rattle.opening_kept.proofs.Ways.{open-channel-refuses}
+use Rattle.opening_kept.proofs.Open.{open-channel-keeps-sound}
+use Rattle.channels_kept.proofs.Close.{close-channel-refuses, close-channel-keeps-sound}
+use Rattle.queues_kept.proofs.Ways.{pending-refuses, fetch-refuses, send-refuses}
+use Rattle.queues_kept.proofs.Kept.{pending-keeps-sound, fetch-keeps-sound, send-keeps-sound}
+
+-- the checks before a call
+module _ (trap : ℕ) (p d name : List ℕ) where
+  -- what holds of every refusal and of the call named holds of the checked call
+  pub checked-by : (P : Outcome → Type 0) → P (refuse not-sound p d) → P (refuse invalid-job p d) → (sound p ≡ true → (caller p ≡ nobody → ⊥) → P (named trap p d name)) → P (checked trap p d name)
+  unfolding checked
+  checked-by P a b c = go (sound p) refl (eqb (caller p) nobody) refl
+    where
+      go : (s : Bool) → sound p ≡ s → (n : Bool) → eqb (caller p) nobody ≡ n → P (cond s (cond n (refuse invalid-job p d) (named trap p d name)) (refuse not-sound p d))
+      go true s true n = b
+      go true s false n = c s (eqb-false (caller p) nobody n)
+      go false s n m = a
+
+  -- a refusal leaves picture and registers
+  abbrev Leaves : Outcome → Type 0
+  Leaves o = (o .key ≡ done → ⊥) → (o .picture ≡ p) × (o .registers ≡ d)
+
+  checked-leaves : Leaves (checked trap p d name)
+  checked-leaves = checked-by Leaves (λ _. (refl, refl)) (λ _. (refl, refl)) (λ s n. each-call Leaves trap p d name (record {
+    informs = information-refuses p d;
+    creates = create-refuses p d;
+    asks = ask-refuses p d;
+    removes = remove-refuses p d;
+    forces = force-remove-refuses p d;
+    measures = longest-room-refuses p d;
+    suspends = suspend-refuses p d;
+    releases = release-refuses p d;
+    activates = activate-refuses p d;
+    prioritizes = λ _ _. set-priority-refuses p d;
+    takes = take-refuses p d;
+    gives-back = give-back-refuses p d;
+    opens = open-channel-refuses p d name;
+    closes = close-channel-refuses p d;
+    pends = pending-refuses p d;
+    fetches = fetch-refuses p d;
+    sends = send-refuses p d;
+    refuses = λ _. (refl, refl);
+  }))
+
+  checked-keeps-sound : sound p ≡ true → sound (checked trap p d name .picture) ≡ true
+  checked-keeps-sound s = checked-by (λ (o : Outcome). sound (o .picture) ≡ true) s s (λ _ n. each-call (λ (o : Outcome). sound (o .picture) ≡ true) trap p d name (record {
+    informs = information-keeps-sound p d s;
+    creates = create-keeps-sound p d s;
+    asks = ask-keeps-sound p d s;
+    removes = remove-keeps-sound p d s;
+    forces = force-remove-keeps-sound p d s;
+    measures = longest-room-keeps-sound p d s;
+    suspends = suspend-keeps-sound p d s;
+    releases = release-keeps-sound p d s;
+    activates = activate-keeps-sound p d s;
+    prioritizes = λ _ _. set-priority-keeps-sound p d s;
+    takes = take-keeps-sound p d s;
+    gives-back = give-back-keeps-sound p d s;
+    opens = open-channel-keeps-sound p d name s;
+    closes = close-channel-keeps-sound p d s;
+    pends = pending-keeps-sound p d s;
+    fetches = fetch-keeps-sound p d s;
+    sends = send-keeps-sound p d s;
+    refuses = s;
+  }))
+
+-- a refusal changes D0 and nothing else, for every call at once
+pub refusal-writes-only-D0 : RefusalWritesOnlyD0
+refusal-writes-only-D0 trap p d name e n =
+    let c = called-with-eight trap p d name e in
+    let l = checked-leaves trap p d name (λ z. n (ap (λ (o : Outcome). o .key) c ∙ z)) in
+    rw c (record { picture = l .0; registers = rw (l .1) })
+
+pub other-registers-refused : OtherRegistersRefused
+other-registers-refused trap p d name n = called-otherwise trap p d name n
+
+-- an unsound picture is answered -16 and unchanged
+pub unsound-is-refused : UnsoundIsRefused
+unsound-is-refused trap p d name e s =
+    rw (called-with-eight trap p d name e, checked-unsound trap p d name s) (record { key = refl; written = record { picture = refl; registers = refl } })
+
+-- every call, pick and tick keeps a sound picture sound
+pub call-keeps-sound : CallKeepsSound
+unfolding called
+call-keeps-sound trap p d name s = go (eqb (length d) 8)
+  where
+    go : (b : Bool) → sound (cond b (with-key (checked trap p d name)) (refuse bad-parameter p d) .picture) ≡ true
+    go true = checked-keeps-sound trap p d name s
+    go false = s
+
+pub pick-keeps : PickKeepsSound
+unfolding pick-picture
+pick-keeps p s = rw s (pick-keeps-sound p s)
+
+pub tick-keeps : TickKeepsSound
+unfolding ticking
+tick-keeps p s = rw s (tick-keeps-sound p s)
+
+-- whatever satisfies a call's contract is equal
+pub whatever-meets-is-equal : WhateverMeetsIsEqual
+whatever-meets-is-equal trap p d name r s q q' e e' m n = record { keys = m .answers ∙ sym (n .answers); pictures = m .leaves ∙ sym (n .leaves); registers = m .gives ∙ sym (n .gives) }

@@ -1,0 +1,4 @@
+-- The promises, proved.
+pub mod Calls
+pub mod Door
+pub mod History

@@ -1,0 +1,1 @@
+// The promises over all calls at once, and over whole histories: laws only.

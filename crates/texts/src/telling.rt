@@ -1,0 +1,77 @@
+use crate::Asked;
+use crate::asking;
+ghost use mathlib.Core.Path.{_≡_};
+ghost use mir.Syntax.{w32};
+ghost use mir.Val.{toZ};
+
+// The first longword that stands for a negative number.
+const FIRST_NEGATIVE: u32 = 0x8000_0000;
+
+// A longword's bits as a signed number.
+fn signed(longword: u32) -> i32
+    ensures { λ r. ⌜ r ≡ toZ w32 longword ⌝ }
+{
+    if longword < FIRST_NEGATIVE {
+        longword as i32
+    } else {
+        !((!longword) as i32)
+    }
+}
+
+// Answers a line that is no trial.
+pub fn write_refusal(out: &mut [u8], used: usize) -> usize {
+    let start = pieces::with_room(out, used);
+    let end = lines::write_character(out, start, b'?');
+    lines::write_character(out, end, b'\n')
+}
+
+// The bytes of a text, two digits each, written out in pieces.
+fn write_bytes(text: &[u8], out: &mut [u8], used: usize) -> usize {
+    let mut place = used;
+    let mut i = 0;
+    while i < text.len() {
+        let start = pieces::with_room(out, place);
+        place = lines::write_number(out, start, 2, text[i] as u32);
+        i += 1;
+    }
+    place
+}
+
+// A text, as a field.
+fn write_text(text: &[u8], out: &mut [u8], used: usize) -> usize {
+    if text.len() == 0 {
+        return lines::write_character(out, used, b'-');
+    }
+    write_bytes(text, out, used)
+}
+
+// Answers with a key and a text.
+fn write_error(key: u32, text: &[u8], out: &mut [u8], used: usize) -> usize {
+    let start = pieces::with_room(out, used);
+    let keyed = lines::write_number(out, start, 8, key);
+    let apart = lines::write_character(out, keyed, b' ');
+    let end = write_text(text, out, apart);
+    lines::write_character(out, end, b'\n')
+}
+
+// Asks for the text of a key, and answers with it.
+fn tell<'a>(key: u32, system: &'a [u8], driver: &'a [u8], out: &mut [u8], used: usize) -> usize {
+    let asked = signed(key);
+    let answered = manager::error_key(asked, system, driver);
+    let text = manager::error_text(asked, system, driver);
+    write_error(words::bits_of(answered), text, out, used)
+}
+
+// Answers a line that asks for an error text, in the rooms that are lent.
+pub fn answer_error(
+    line: &[u8],
+    system: &mut [u8],
+    driver: &mut [u8],
+    out: &mut [u8],
+    used: usize,
+) -> usize {
+    match asking::read_asked(line, system, driver) {
+        Asked::Text(key, first, last) => tell(key, &system[..first], &driver[..last], out, used),
+        Asked::Bad => write_refusal(out, used),
+    }
+}

@@ -1,0 +1,6 @@
+-- Laws of the definitions of specs/.
+pub mod Mask
+pub mod Climb
+pub mod Owners
+pub mod Members
+pub mod Found

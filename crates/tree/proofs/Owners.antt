@@ -1,0 +1,23 @@
+-- What a sound picture says of owners: a live job's number holds its position, and its owner is nobody or a live job with a smaller tag.
+use Prim.Native.Nat.{ℕ, _<_, _%_}
+use mathlib.Core.Path.{_≡_, sym, ap, _∙_, subst}
+use mathlib.Core.Bool.{true}
+use mathlib.Core.Logic.{_⊎_}
+use mathlib.Core.List.{List}
+use native.Mathlib.Omega.{arith}
+use Rattle.picture.specs.Layout.{nobody, positions}
+use Rattle.picture.specs.Records.{number, owner, used}
+use Rattle.picture.specs.Numbers.{tag, position, live}
+use Rattle.picture.specs.declared.Table.the-variants.{Jobs}
+use Rattle.picture.proofs.Records.{used-below}
+
+pub record Owners (p : List ℕ) : Type 0 where
+  pub place : (k : ℕ) → used p Jobs k ≡ true → position (number p Jobs k) ≡ k
+  pub older : (k : ℕ) → used p Jobs k ≡ true → (owner p Jobs k ≡ nobody) ⊎ ((live p Jobs (owner p Jobs k) ≡ true) × (tag (owner p Jobs k) < tag (number p Jobs k)))
+
+-- nobody is the number of no position
+past : (n k : ℕ) → n ≡ nobody → position n ≡ k → k < positions Jobs → ⊥
+past n k e q l = let z : position nobody ≡ k = subst (λ (x : ℕ). position x ≡ k) e q in omega arith
+
+pub nobody-is-no-job : (p : List ℕ) (k : ℕ) → Owners p → used p Jobs k ≡ true → number p Jobs k ≡ nobody → ⊥
+nobody-is-no-job p k O u e = past (number p Jobs k) k e (O .place k u) (used-below p Jobs k u)

@@ -1,0 +1,4 @@
+-- The definitions that the contracts cite.
+pub mod Mask
+pub mod Under
+pub mod Tree

@@ -1,0 +1,23 @@
+-- The tree of a job, computed.
+use Prim.Native.Nat.{ℕ, zero, suc}
+use mathlib.Core.Bool.{Bool, _&&_, _||_, not}
+use mathlib.Core.List.{List}
+use lib.Dec.{eqb}
+use Rattle.picture.specs.Layout.{nobody, positions}
+use Rattle.picture.specs.Records.{owner, used}
+use Rattle.picture.specs.Numbers.{position}
+use Rattle.picture.specs.declared.Table.the-variants.{Jobs}
+use Rattle.tree.specs.Mask.{mask}
+
+-- from position k one reaches position t by at most n owners
+unfoldable pub climbs : ℕ → List ℕ → ℕ → ℕ → Bool
+climbs zero p t k = eqb k t
+climbs (suc n) p t k = eqb k t || (not (eqb (owner p Jobs k) nobody) && climbs n p t (position (owner p Jobs k)))
+
+-- the job at position k is live and in the tree of the job at position t
+unfoldable pub in-tree : List ℕ → ℕ → ℕ → Bool
+in-tree p t k = used p Jobs k && climbs (positions Jobs) p t k
+
+-- the positions of the tree of the job at position t
+unfoldable pub tree : List ℕ → ℕ → ℕ
+tree p t = mask (in-tree p t) (positions Jobs)
