@@ -2,3 +2,5 @@
 pub mod Next
 pub mod Bounds
 pub mod Call
+pub mod Members
+pub mod Bench

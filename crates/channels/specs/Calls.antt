@@ -21,35 +21,32 @@ close-channel p d =
     (succeed (closed p (position (A0 d))) d)
     (refuse channel-not-open p d)
 
--- "Trap 3: channel A0; D3's low word 0 (else -15). $0 asks whether a byte waits"
-unfoldable pub pending : List ℕ → List ℕ → Outcome
-pending p d =
+-- "Trap 3: channel A0; D3's low word 0 (else -15)": o is what the call comes to then
+abbrev pub at-channel : List ℕ → List ℕ → Outcome → Outcome
+at-channel p d o =
     cond (live p Channels (A0 d))
     (cond (immediate d)
+    o
+    (refuse bad-parameter p d))
+    (refuse channel-not-open p d)
+
+-- "$0 asks whether a byte waits"
+unfoldable pub pending : List ℕ → List ℕ → Outcome
+pending p d = at-channel p d
     (cond (waits p (queue-named p d))
     (succeed p d)
     (refuse not-complete p d))
-    (refuse bad-parameter p d))
-    (refuse channel-not-open p d)
 
 -- "$1 takes the oldest into D1 (upper bits 0)"
 unfoldable pub fetch : List ℕ → List ℕ → Outcome
-fetch p d =
-    cond (live p Channels (A0 d))
-    (cond (immediate d)
+fetch p d = at-channel p d
     (cond (waits p (queue-named p d))
     (succeed (fetched p (queue-named p d)) (with-D1 (oldest-byte p (queue-named p d)) d))
     (refuse not-complete p d))
-    (refuse bad-parameter p d))
-    (refuse channel-not-open p d)
 
 -- "$5 writes D1's low byte behind the newest"
 unfoldable pub send : List ℕ → List ℕ → Outcome
-send p d =
-    cond (live p Channels (A0 d))
-    (cond (immediate d)
+send p d = at-channel p d
     (cond (full p (queue-named p d))
     (refuse not-complete p d)
     (succeed (sent p (queue-named p d) (D1 d % 256)) d))
-    (refuse bad-parameter p d))
-    (refuse channel-not-open p d)

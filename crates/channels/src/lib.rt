@@ -10,6 +10,8 @@ ghost use mathlib.Core.Bool.{true};
 ghost use Prim.Native.Nat.{_<_, _≤_};
 ghost use Rattle.picture.specs.Layout.{positions, greatest-size as greatestSize, upto};
 ghost use Rattle.picture.specs.declared.Area.the-variants.{Heap};
+ghost use Rattle.picture.specs.Numbers.{channel-at as channelAt};
+ghost use Rattle.calls.specs.Registers.{A0};
 ghost use Rattle.sound.specs.Sound.{sound};
 ghost use Rattle.calls.specs.Outcome.{Meets};
 ghost use Rattle.channels.specs.Effects.{queue-of as queueOf, forgotten, closed, immediate};
@@ -20,6 +22,13 @@ pub fn is_immediate(d: &[u32]) -> bool
     ensures { λ r. ⌜ r ≡ immediate (now (d .entry)) ⌝ }
 {
     words::low_half(word(d, calls::D3)) == 0
+}
+
+// The position of the channel that A0 names, by its whole number.
+pub fn channel_named(p: &[u32], d: &[u32]) -> ChannelFound
+    ensures { λ r. ⌜ r ≡ channelAt (now (p .entry)) (A0 (now (d .entry))) ⌝ }
+{
+    picture::channel_at(p, ChannelNumber(word(d, calls::A0)))
 }
 
 // The queue of the channel at position k: its block.
@@ -59,7 +68,7 @@ pub fn close_channel(p: &mut [u32], d: &mut [u32]) -> i32
     requires { ⌜ sound (now p) ≡ true ⌝ }
     ensures { λ r. ⌜ Meets (closeChannel (now (p .entry)) (now (d .entry))) r (now (p .exit)) (now (d .exit)) ⌝ }
 {
-    let ChannelFound::At(k) = picture::channel_at(p, ChannelNumber(word(d, calls::A0))) else {
+    let ChannelFound::At(k) = channel_named(p, d) else {
         return picture::CHANNEL_NOT_OPEN;
     };
     remove_channel(p, k);
@@ -70,7 +79,7 @@ pub fn close_channel(p: &mut [u32], d: &mut [u32]) -> i32
 pub fn pending(p: &mut [u32], d: &mut [u32]) -> i32
     ensures { λ r. ⌜ Meets (pending (now (p .entry)) (now (d .entry))) r (now (p .exit)) (now (d .exit)) ⌝ }
 {
-    let ChannelFound::At(k) = picture::channel_at(p, ChannelNumber(word(d, calls::A0))) else {
+    let ChannelFound::At(k) = channel_named(p, d) else {
         return picture::CHANNEL_NOT_OPEN;
     };
     if !is_immediate(d) {
@@ -87,7 +96,7 @@ pub fn fetch(p: &mut [u32], d: &mut [u32]) -> i32
     requires { ⌜ sound (now p) ≡ true ⌝ }
     ensures { λ r. ⌜ Meets (fetch (now (p .entry)) (now (d .entry))) r (now (p .exit)) (now (d .exit)) ⌝ }
 {
-    let ChannelFound::At(k) = picture::channel_at(p, ChannelNumber(word(d, calls::A0))) else {
+    let ChannelFound::At(k) = channel_named(p, d) else {
         return picture::CHANNEL_NOT_OPEN;
     };
     if !is_immediate(d) {
@@ -107,7 +116,7 @@ pub fn send(p: &mut [u32], d: &mut [u32]) -> i32
     requires { ⌜ sound (now p) ≡ true ⌝ }
     ensures { λ r. ⌜ Meets (send (now (p .entry)) (now (d .entry))) r (now (p .exit)) (now (d .exit)) ⌝ }
 {
-    let ChannelFound::At(k) = picture::channel_at(p, ChannelNumber(word(d, calls::A0))) else {
+    let ChannelFound::At(k) = channel_named(p, d) else {
         return picture::CHANNEL_NOT_OPEN;
     };
     if !is_immediate(d) {

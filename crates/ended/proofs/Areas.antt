@@ -8,23 +8,24 @@ use lib.ListN.{length}
 use lib.Dec.{eqb}
 use native.Mathlib.Omega.{arith}
 use Rattle.words.specs.Words.{word}
-use Rattle.words.specs.Each.{In}
+use Rattle.words.specs.Each.{In, total}
+use Rattle.words.proofs.Each.{total-same}
 use Rattle.picture.specs.Layout.{size-word, heap-word, heap-base, from, upto}
 use Rattle.picture.specs.declared.Area.{Area}
 use Rattle.picture.specs.declared.Area.the-variants.{Heap, Transient}
 use Rattle.blocks.specs.Header.{size, kind, free, holder, start}
 use Rattle.blocks.specs.Walk.{good, next, starts}
 use Rattle.blocks.proofs.Starts.{starts-in, next-same}
-use Rattle.headers.specs.Area.{Tiled, Apart, Blank, Outside}
+use Rattle.headers.specs.Area.{Tiled, Apart, Blank, Outside, free-size, free-bytes}
 use Rattle.headers.proofs.Row.{Block, block-of}
 use Rattle.facts.proofs.Same.{starts-between}
 use Rattle.facts.proofs.Sound.{Sound}
 use Rattle.freeing.specs.Sweep.{named, goes, swept}
 use Rattle.freeing.proofs.Steps.{goes-same}
-use Rattle.freeing.proofs.Swept.{Swept, sweeping-keeps-the-area}
+use Rattle.freeing.proofs.Swept.{Swept, given-size, given-bytes, sweeping-keeps-the-area}
 use Rattle.ending.specs.Ended.{no-block, returned}
 
--- the blocks in use of q, in the area from b to e, are those of p that do not go, with every longword; the area is tiled, and free blocks are apart and plain
+-- the blocks in use of q, in the area from b to e, are those of p that do not go, with every longword; the area is tiled, and free blocks are apart and plain; the bytes of the blocks that go are free
 pub record Kept (p q : List ℕ) (b e m a : ℕ) : Type 0 where
   pub tiled : Tiled q b e
   pub apart : Apart q b e
@@ -33,6 +34,7 @@ pub record Kept (p q : List ℕ) (b e m a : ℕ) : Type 0 where
   pub keeps : (i : ℕ) → In i (starts p b e) → free p i ≡ false → goes p m a i ≡ false → (k : ℕ) → i ≤ k → k < i + size p i / 4 → word q k ≡ word p k
   pub only : (i : ℕ) → In i (starts q b e) → free q i ≡ false → In i (starts p b e) × ((free p i ≡ false) × (goes p m a i ≡ false))
   pub rooms : (i : ℕ) → In i (starts p b e) → (k : ℕ) → i + 4 ≤ k → k < i + size p i / 4 → word q k ≡ word p k
+  pub more-free : free-bytes q b e ≡ free-bytes p b e + given-bytes p b e m a
 
 good-same : (p q : List ℕ) (i e : ℕ) → word q i ≡ word p i → good q i e ≡ good p i e
 unfolding good
@@ -67,6 +69,7 @@ kept p x y q b e m a S T X Y = record {
       let l = B .low in
       let r = B .high in
       Y k (omega arith) (omega arith) ∙ S .rooms i (into i h) k lo (rw (sx i h) hi) ∙ X k (omega arith) (omega arith);
+  more-free = after ∙ S .more-free ∙ ap (λ (n : ℕ). n + given-bytes x b e m a) before ∙ ap (λ (n : ℕ). free-bytes p b e + n) given;
 }
   where
     xs : starts x b e ≡ starts p b e
@@ -105,6 +108,15 @@ kept p x y q b e m a S T X Y = record {
 
     gx : (i : ℕ) → In i (starts p b e) → goes x m a i ≡ goes p m a i
     gx i h = goes-same p x m a i (header-of i 1 (omega arith) h) (header-of i 2 (omega arith) h)
+
+    after : free-bytes q b e ≡ free-bytes y b e
+    after = ap (total (free-size q)) qs ∙ total-same (free-size q) (free-size y) (starts y b e) (λ i n. let r = starts-in y b e i n in rw (fy i n, Y i (r .0) (r .1)))
+
+    before : free-bytes x b e ≡ free-bytes p b e
+    before = ap (total (free-size x)) xs ∙ total-same (free-size x) (free-size p) (starts p b e) (λ i n. rw (fx i n, sx i n))
+
+    given : given-bytes x b e m a ≡ given-bytes p b e m a
+    given = ap (total (given-size x m a)) xs ∙ total-same (given-size x m a) (given-size p m a) (starts p b e) (λ i n. rw (gx i n, sx i n))
 
     plains : Blank p b e → Blank q b e
     plains t i n u =

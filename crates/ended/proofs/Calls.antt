@@ -23,7 +23,7 @@ use Rattle.calls.specs.Registers.{D1, D3, cleared, meant}
 use Rattle.tree.specs.Tree.{tree}
 use Rattle.emptying.specs.Taken.{channels-of}
 use Rattle.ending.specs.Ended.{ended}
-use Rattle.ending.specs.Remove.{asked, inactive, remove, force-remove}
+use Rattle.ending.specs.Remove.{asked, inactive, removal, remove, force-remove}
 use Rattle.ended.proofs.Taken.{Taken}
 use Rattle.ended.proofs.Sound.{ended-tables, ended-is-no-newer, ending-keeps-sound}
 
@@ -33,9 +33,9 @@ module _ (p d : List ℕ) (P : Outcome → Type 0) (refused : (o : Outcome) → 
   top : (b : Bool) → live p Jobs (meant p (D1 d)) ≡ b → b ≡ true → used p Jobs (asked p d) ≡ true
   top b l e = live-is p Jobs (meant p (D1 d)) (l ∙ e) .used
 
-  pub of-remove : P (remove p d)
-  unfolding remove
-  of-remove = go (live p Jobs (meant p (D1 d))) (eqb (asked p d) 0) (inactive p (tree p (asked p d))) refl refl
+  of-removal : (i : Bool) → P (removal p d i)
+  unfolding removal
+  of-removal i = go (live p Jobs (meant p (D1 d))) (eqb (asked p d) 0) i refl refl
     where
       go : (b z i : Bool) → live p Jobs (meant p (D1 d)) ≡ b → eqb (asked p d) 0 ≡ z
           → P (cond b (cond (not z) (cond i (succeed (ended p (asked p d) (D3 d)) (cleared d)) (refuse not-complete p d)) (refuse bad-parameter p d)) (refuse invalid-job p d))
@@ -44,15 +44,13 @@ module _ (p d : List ℕ) (P : Outcome → Type 0) (refused : (o : Outcome) → 
       go true false false l e = refused (refuse not-complete p d) refl
       go false z i l e = refused (refuse invalid-job p d) refl
 
+  pub of-remove : P (remove p d)
+  unfolding remove
+  of-remove = of-removal (inactive p (tree p (asked p d)))
+
   pub of-force-remove : P (force-remove p d)
   unfolding force-remove
-  of-force-remove = go (live p Jobs (meant p (D1 d))) (eqb (asked p d) 0) refl refl
-    where
-      go : (b z : Bool) → live p Jobs (meant p (D1 d)) ≡ b → eqb (asked p d) 0 ≡ z
-          → P (cond b (cond (not z) (succeed (ended p (asked p d) (D3 d)) (cleared d)) (refuse bad-parameter p d)) (refuse invalid-job p d))
-      go true true l e = refused (refuse bad-parameter p d) refl
-      go true false l e = ends (top true l refl) (eqb-false (asked p d) 0 e)
-      go false z l e = refused (refuse invalid-job p d) refl
+  of-force-remove = of-removal true
 
 -- a refusal changes nothing
 module _ (p d : List ℕ) where

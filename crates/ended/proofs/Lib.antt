@@ -8,3 +8,4 @@ pub mod Sound
 pub mod Calls
 pub mod Promise
 pub mod Refusal
+pub mod Bench

@@ -25,28 +25,19 @@ use Rattle.blocks.proofs.Starts.{starts-in}
 use Rattle.matching.specs.Match.{area-of, claims}
 use Rattle.matching.proofs.Counts.{Own}
 use Rattle.matching.proofs.Matched.{apart-base}
-use Rattle.facts.proofs.Sound.{Sound, Jobs-fine}
+use Rattle.facts.proofs.Sound.{Sound}
 use Rattle.facts.proofs.View.{claims-used}
 use Rattle.freeing.specs.Sweep.{named, goes}
 use Rattle.tree.specs.Tree.{tree}
 use Rattle.tree.specs.Mask.{mask}
 use Rattle.tree.proofs.Mask.{mask-lt, mask-bit}
 use Rattle.tree.proofs.Owners.{Owners, nobody-is-no-job}
+use Rattle.owners.proofs.Owners.{owners-of}
 use Rattle.tree.proofs.Members.{tree-says, tree-top, tree-child, tree-owner}
 use Rattle.emptying.specs.Taken.{channel-goes, channels-of}
 use Rattle.ending.specs.Ended.{no-block}
 use Rattle.ended.proofs.Taken.{going}
 use Rattle.ended.proofs.Areas.{extra}
-
--- soundness gives what the tree's laws ask of owners
-pub owners-of : (p : List ℕ) → Jobs-fine p → Owners p
-owners-of p J = record {
-  place = J .entries .place;
-  older = λ k u. ⊎-elim
-      inl
-      (λ (l : tag (owner p Jobs k) < tag (number p Jobs k)). ⊎-elim (λ e. inl (e .1)) (λ e. inr (e, l)) (J .entries .owned k u))
-      (J .older k u);
-}
 
 pub tree-fits : (p : List ℕ) (t : ℕ) → tree p t < 4294967296
 unfolding tree

@@ -23,6 +23,7 @@ use Rattle.picture.proofs.Numbers.{live-is, is-live}
 use Rattle.blocks.specs.Header.{size, kind, free, holder, job-kind}
 use Rattle.blocks.specs.Walk.{starts, blocks}
 use Rattle.blocks.proofs.Starts.{starts-in}
+use Rattle.headers.specs.Area.{free-bytes}
 use Rattle.headers.proofs.Header.{same-or-not}
 use Rattle.headers.proofs.Row.{block-of}
 use Rattle.matching.specs.Match.{claims}
@@ -30,17 +31,19 @@ use Rattle.sound.specs.Sound.{sound}
 use Rattle.facts.proofs.Sound.{Sound}
 use Rattle.facts.proofs.View.{view}
 use Rattle.freeing.specs.Sweep.{named, goes}
+use Rattle.freeing.proofs.Swept.{given-bytes}
 use Rattle.tree.specs.Tree.{tree}
 use Rattle.tree.specs.Under.{Under}
 use Rattle.tree.proofs.Mask.{mask-bit}
 use Rattle.tree.proofs.Owners.{Owners}
+use Rattle.owners.proofs.Owners.{owners-of}
 use Rattle.tree.proofs.Members.{tree-says, tree-has, tree-unowned}
 use Rattle.emptying.specs.Taken.{waits, channel-goes, channels-of}
 use Rattle.ending.specs.Ended.{no-block, ended}
 use Rattle.ended.specs.Promise.{Member, Woken, Leaves, Takes}
 use Rattle.ended.proofs.Taken.{going, Taken}
 use Rattle.ended.proofs.Areas.{Kept, extra}
-use Rattle.ended.proofs.Owned.{owners-of, named-is, is-named, not-named, otherwise, owner-outside}
+use Rattle.ended.proofs.Owned.{named-is, is-named, not-named, otherwise, owner-outside}
 use Rattle.ended.proofs.Sound.{not-going, ended-tables, ended-area}
 
 module _ (p : List ℕ) (S : Sound p) (t key : ℕ) (top : used p Jobs t ≡ true) (other : t ≡ 0 → ⊥) where
@@ -211,3 +214,8 @@ ending-leaves-others p t key s u n = leaves p (view p s) t key u n
 -- nothing owned by the tree is left, and the current job is nobody
 pub ending-takes-the-tree : (p : List ℕ) (t key : ℕ) → sound p ≡ true → used p Jobs t ≡ true → (t ≡ 0 → ⊥) → Takes p (ended p t key) t
 ending-takes-the-tree p t key s u n = takes p (view p s) t key u n
+
+-- the bytes of the blocks that go are free, area by area
+pub ending-gives-bytes-back : (p : List ℕ) (t key : ℕ) → sound p ≡ true → used p Jobs t ≡ true → (t ≡ 0 → ⊥) → (r : Area)
+    → free-bytes (ended p t key) (from p r) (upto p r) ≡ free-bytes p (from p r) (upto p r) + given-bytes p (from p r) (upto p r) (tree p t) (extra (base p Jobs t / 4) r)
+ending-gives-bytes-back p t key s u n r = ended-area p (view p s) t key u n r .more-free

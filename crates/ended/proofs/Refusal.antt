@@ -18,16 +18,15 @@ use Rattle.picture.specs.Keys.{done, not-complete, invalid-job, bad-parameter}
 use Rattle.picture.specs.declared.Table.the-variants.{Jobs}
 use Rattle.picture.proofs.Records.{used-below}
 use Rattle.sound.specs.Sound.{sound}
-use Rattle.facts.proofs.View.{view}
 use Rattle.calls.specs.Outcome.{Outcome, refuse, succeed}
 use Rattle.calls.specs.Registers.{D1, D3, cleared, meant}
 use Rattle.tree.specs.Tree.{tree}
 use Rattle.tree.specs.Under.{Under}
 use Rattle.tree.proofs.Members.{tree-says, tree-has}
 use Rattle.ending.specs.Ended.{ended}
-use Rattle.ending.specs.Remove.{asked, at-rest, inactive, remove, force-remove}
+use Rattle.ending.specs.Remove.{asked, at-rest, inactive, removal, remove, force-remove}
 use Rattle.ended.specs.Promise.{ActiveMember}
-use Rattle.ended.proofs.Owned.{owners-of}
+use Rattle.owners.proofs.Owners.{owners-in-order}
 
 -- where not every number passes, one fails
 some-fails : (f : ℕ → Bool) (n : ℕ) → every f n ≡ false → (k : ℕ) × ((k < n) × (f k ≡ false))
@@ -49,20 +48,20 @@ module _ (p : List ℕ) (s : sound p ≡ true) (t : ℕ) where
   active-member h =
       let x = some-fails (at-rest p (tree p t)) (positions Jobs) h in
       let y = both (bit (tree p t) (x .0)) (active p (x .0)) (not-false-is _ (x .1 .1)) in
-      let z = tree-says p (owners-of p (view p s .jobs)) t (x .0) (x .1 .0) (y .0) in
+      let z = tree-says p (owners-in-order p s) t (x .0) (x .1 .0) (y .0) in
       record { who = x .0; lives = z .0; under = z .1; acts = y .1 }
 
   pub not-inactive : ActiveMember p t → inactive p (tree p t) ≡ false
   unfolding inactive at-rest
   not-inactive A = every-not (at-rest p (tree p t)) (positions Jobs) (A .who) (used-below p Jobs (A .who) (A .lives))
-      (rw (tree-has p (owners-of p (view p s .jobs)) t (A .who) (A .lives) (A .under), A .acts))
+      (rw (tree-has p (owners-in-order p s) t (A .who) (A .lives) (A .under), A .acts))
 
 pub remove-is-refused-when-a-member-is-active : (p d : List ℕ) → sound p ≡ true → live p Jobs (meant p (D1 d)) ≡ true → (asked p d ≡ 0 → ⊥) → ActiveMember p (asked p d) → remove p d .key ≡ not-complete
-unfolding remove
+unfolding remove removal
 remove-is-refused-when-a-member-is-active p d s l n A = rw (l, ne-eqb (asked p d) 0 n, not-inactive p s (asked p d) A)
 
 pub a-member-is-active-when-remove-is-refused : (p d : List ℕ) → sound p ≡ true → remove p d .key ≡ not-complete → (live p Jobs (meant p (D1 d)) ≡ true) × ((asked p d ≡ 0 → ⊥) × ActiveMember p (asked p d))
-unfolding remove
+unfolding remove removal
 a-member-is-active-when-remove-is-refused p d s h = go (live p Jobs (meant p (D1 d))) (eqb (asked p d) 0) (inactive p (tree p (asked p d))) refl refl refl h
   where
     Result : Type 0
@@ -76,5 +75,5 @@ a-member-is-active-when-remove-is-refused p d s h = go (live p Jobs (meant p (D1
     go false z i l e q h = absurd (let z : _≡_ {A = ℕ} 0 1 = cc in omega arith)
 
 pub removing-job-0-is-a-bad-parameter : (p d : List ℕ) → live p Jobs (meant p (D1 d)) ≡ true → asked p d ≡ 0 → (remove p d .key ≡ bad-parameter) × (force-remove p d .key ≡ bad-parameter)
-unfolding remove force-remove
+unfolding remove force-remove removal
 removing-job-0-is-a-bad-parameter p d l z = (rw (l, eq-eqb (asked p d) 0 z), rw (l, eq-eqb (asked p d) 0 z))

@@ -34,12 +34,13 @@ use Rattle.facts.proofs.Sound.{Sizes, Queue, Waits, Owned, Entries, Jobs-fine, 
 use Rattle.facts.proofs.View.{claims-used, view, sound-again}
 use Rattle.freeing.specs.Sweep.{named, goes}
 use Rattle.tree.specs.Tree.{tree}
+use Rattle.owners.proofs.Owners.{owners-of}
 use Rattle.tree.proofs.Members.{tree-unowned}
 use Rattle.emptying.specs.Taken.{waits, channels-of}
 use Rattle.ending.specs.Ended.{returned, ended}
 use Rattle.ended.proofs.Taken.{going, Taken, taken-tables, taken-above, taken-from}
 use Rattle.ended.proofs.Areas.{Kept, extra, returned-long, returned-low, area-kept}
-use Rattle.ended.proofs.Owned.{owners-of, tree-fits, channels-fit, named-is, is-named, not-named, otherwise, owner-outside, block-goes}
+use Rattle.ended.proofs.Owned.{tree-fits, channels-fit, named-is, is-named, not-named, otherwise, owner-outside, block-goes}
 
 -- a block in use that does not go is not the extra one, and its owner is not of the mask
 pub not-going : (p : List ℕ) (m a i : ℕ) → free p i ≡ false → goes p m a i ≡ false → named m (holder p i) ≡ false

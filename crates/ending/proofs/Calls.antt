@@ -19,7 +19,7 @@ use Rattle.calls.specs.Registers.{D1, D3, cleared, meant}
 use Rattle.tree.specs.Tree.{tree}
 use Rattle.tree.proofs.Found.{job-found, job-dead}
 use Rattle.ending.specs.Ended.{ended}
-use Rattle.ending.specs.Remove.{inactive, remove, force-remove}
+use Rattle.ending.specs.Remove.{inactive, removal, remove, force-remove}
 
 -- the areas of a sound picture end within it
 pub areas-within : (p : List ℕ) → sound p ≡ true → (upto p Heap ≤ greatest-size) × (upto p Transient ≤ greatest-size)
@@ -27,30 +27,30 @@ areas-within p s = let z = view p s .sizes in let l = z .long in let m = z .most
 
 module _ (p d : List ℕ) where
   pub remove-no-job : job-at p (meant p (D1 d)) ≡ Dead → remove p d ≡ refuse invalid-job p d
-  unfolding remove
+  unfolding remove removal
   remove-no-job a = rw (job-dead p (meant p (D1 d)) a)
 
   pub force-remove-no-job : job-at p (meant p (D1 d)) ≡ Dead → force-remove p d ≡ refuse invalid-job p d
-  unfolding force-remove
+  unfolding force-remove removal
   force-remove-no-job a = rw (job-dead p (meant p (D1 d)) a)
 
   module _ (t : ℕ) (a : job-at p (meant p (D1 d)) ≡ At t) where
     pub remove-job-0 : t ≡ 0 → remove p d ≡ refuse bad-parameter p d
-    unfolding remove
+    unfolding remove removal
     remove-job-0 z = let f = job-found p (meant p (D1 d)) t a in rw (f .lives, f .place, eq-eqb t 0 z)
 
     pub remove-active : (t ≡ 0 → ⊥) → inactive p (tree p t) ≡ false → remove p d ≡ refuse not-complete p d
-    unfolding remove
+    unfolding remove removal
     remove-active z i = let f = job-found p (meant p (D1 d)) t a in rw (f .lives, f .place, ne-eqb t 0 z, i)
 
     pub remove-ends : (t ≡ 0 → ⊥) → inactive p (tree p t) ≡ true → (q e : List ℕ) → q ≡ ended p t (D3 d) → e ≡ cleared d → remove p d ≡ succeed q e
-    unfolding remove
+    unfolding remove removal
     remove-ends z i q e x y = let f = job-found p (meant p (D1 d)) t a in rw (f .lives, f .place, ne-eqb t 0 z, i, x, y)
 
     pub force-remove-job-0 : t ≡ 0 → force-remove p d ≡ refuse bad-parameter p d
-    unfolding force-remove
+    unfolding force-remove removal
     force-remove-job-0 z = let f = job-found p (meant p (D1 d)) t a in rw (f .lives, f .place, eq-eqb t 0 z)
 
     pub force-remove-ends : (t ≡ 0 → ⊥) → (q e : List ℕ) → q ≡ ended p t (D3 d) → e ≡ cleared d → force-remove p d ≡ succeed q e
-    unfolding force-remove
+    unfolding force-remove removal
     force-remove-ends z q e x y = let f = job-found p (meant p (D1 d)) t a in rw (f .lives, f .place, ne-eqb t 0 z, x, y)

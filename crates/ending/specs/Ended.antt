@@ -10,10 +10,11 @@ use Rattle.freeing.specs.Sweep.{swept}
 use Rattle.tree.specs.Tree.{tree}
 use Rattle.emptying.specs.Taken.{channels-of, taken}
 
--- their job blocks, the top's own at a among them, plain blocks and queue blocks are given back; no block of the heap starts at 0
+-- no block starts at 0
 abbrev pub no-block : ℕ
 no-block = 0
 
+-- "with their blocks": the blocks of the jobs of m are given back in both areas, and the top's own job block at a
 unfoldable pub returned : List ℕ → ℕ → ℕ → List ℕ
 returned p m a = swept (swept p (from p Heap) (upto p Heap) m no-block) (from p Transient) (upto p Transient) m a
 

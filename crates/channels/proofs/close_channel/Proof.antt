@@ -13,58 +13,52 @@ use Rattle.channels.proofs.close_channel.Statement.{statement}
 use Rattle.channels.proofs.close_channel.Tie as tie
 use Rattle.channels.proofs.close_channel.Reads as reads
 use Rattle.channels.proofs.close_channel.Lts as lts
+use Rattle.channels.proofs.channel_named.Reads as channel-named-reads
 use Rattle.channels.proofs.remove_channel.Reads as remove-channel-reads
-use Rattle.picture.proofs.channel_at.Reads as channel-at-reads
-use Rattle.words.proofs.word.Reads as word-reads
 
 -- the channel that A0 names
-found : (c : tie.After-known-told) → Named (c .before .before .before .before .before .before .before .before .before .args .p .now) (word (c .before .before .before .before .before .before .before .before .before .args .d .now) 4) (c .before .k .given .0 .0)
-found c = let h = c .before .before .before in channel-found _ _ _ (rw (h .before .word .ensures) at (sym (h .channel-at .ensures) ∙ c .before .k .given .1))
+found : (c : tie.After-known-told) → Named (c .before .before .before .before .before .before .before .before .args .p .now) (word (c .before .before .before .before .before .before .before .before .args .d .now) 4) (c .before .k .given .0 .0)
+found c = channel-found _ _ _ (sym (c .before .before .before .channel-named .ensures) ∙ c .before .k .given .1)
 
--- src/lib.rt:117:68
-word-requires : tie.Need-word-requires
-word-requires c κs = search needs
+-- src/lib.rt:71:31
+channel-named-requires : tie.Need-channel-named-requires
+channel-named-requires c κs = search needs
 
--- src/lib.rt:117:31
-channel-at-requires : tie.Need-channel-at-requires
-channel-at-requires c κs = search needs
-
--- src/lib.rt:117:26
+-- src/lib.rt:71:26
 enum-known-k : tie.Need-enum-known-k
 enum-known-k c = search needs
 
--- src/lib.rt:118:9
+-- src/lib.rt:72:9
 enum-told : tie.Need-enum-told
 enum-told c = search needs
 
--- src/lib.rt:118:9
+-- src/lib.rt:72:9
 same-length : tie.Need-same-length
 same-length c = search needs
 
--- src/lib.rt:118:9
+-- src/lib.rt:72:9
 same-length-2 : tie.Need-same-length-2
 same-length-2 c = search needs
 
--- src/lib.rt:118:9
+-- src/lib.rt:72:9
 returns : tie.Need-returns
 unfolding close-channel
-returns c = let h = c .before .before in
-    meets-refuse _ _ _ _ (rw (channel-dead _ _ (rw (h .before .word .ensures) at (sym (h .channel-at .ensures) ∙ c .enum-told .given .1))))
+returns c = meets-refuse _ _ _ _ (rw (channel-dead _ _ (sym (c .before .before .channel-named .ensures) ∙ c .enum-told .given .1)))
 
--- src/lib.rt:120:5
+-- src/lib.rt:74:5
 remove-channel-requires : tie.Need-remove-channel-requires
-remove-channel-requires c κs = let f = c .before in let s = f .before .before .before .before .before .before .before .before .before in
+remove-channel-requires c κs = let f = c .before in let s = f .before .before .before .before .before .before .before .before in
     (found f .below, areas-lie-in-a-sound-picture (s .args .p .now) (s .pre) Heap .small)
 
--- src/lib.rt:113:1
+-- src/lib.rt:67:1
 same-length-3 : tie.Need-same-length-3
 same-length-3 c = search needs
 
--- src/lib.rt:113:1
+-- src/lib.rt:67:1
 same-length-4 : tie.Need-same-length-4
 same-length-4 c = search needs
 
--- src/lib.rt:113:1
+-- src/lib.rt:67:1
 returns-2 : tie.Need-returns-2
 unfolding close-channel
 returns-2 c = let r = c .before .before in let f = found (r .before .before) in
@@ -74,8 +68,7 @@ pub close-channel-spec : {M : Type 1} → statement M
 close-channel-spec =
     tie.close
     (tie.spec
-    word-requires
-    channel-at-requires
+    channel-named-requires
     enum-known-k
     enum-told
     same-length

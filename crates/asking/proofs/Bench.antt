@@ -1,0 +1,31 @@
+-- A worked example: job 2 owns job 3, which owns job 1, and tags rise in that order. Asking again with the answer meets them in it.
+use Prim.Native.Nat.{ℕ}
+use mathlib.Core.Path.{_≡_, refl}
+use mathlib.Core.List.{List, [], _∷_}
+use lib.ListN.{replicate}
+use lib.Seq.{sets}
+use Rattle.picture.specs.Layout.{nobody}
+use Rattle.picture.specs.Records.{used}
+use Rattle.tree.specs.Mask.{mask}
+use Rattle.tree.specs.Tree.{climbs, in-tree, tree}
+use Rattle.asking.specs.Next.{nearer, next-below, next-member}
+
+jobs : List ℕ
+jobs =
+    sets (sets (sets (sets (sets (replicate 264 0) 5 (15 ∷ []))
+    8 (0 ∷ nobody ∷ []))
+    16 (196609 ∷ 131075 ∷ []))
+    24 (65538 ∷ nobody ∷ []))
+    32 (131075 ∷ 65538 ∷ [])
+
+after-job-2 : next-member jobs (tree jobs 2) 1 ≡ 131075
+unfolding jobs climbs in-tree mask tree used nearer next-below next-member
+after-job-2 = refl
+
+after-job-3 : next-member jobs (tree jobs 2) 2 ≡ 196609
+unfolding jobs climbs in-tree mask tree used nearer next-below next-member
+after-job-3 = refl
+
+after-job-1 : next-member jobs (tree jobs 2) 3 ≡ 0
+unfolding jobs climbs in-tree mask tree used nearer next-below next-member
+after-job-1 = refl

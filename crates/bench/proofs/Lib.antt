@@ -1,0 +1,2 @@
+-- The marked cases of the desk bench.
+pub mod Table

@@ -1,0 +1,1 @@
+-- The table stands in proofs/: this crate has no definitions.

@@ -1,0 +1,1 @@
+// Document 01's desk bench: the marked cases as theorems.

@@ -1,0 +1,2 @@
+-- Laws of owners in a sound picture.
+pub mod Owners

@@ -1,0 +1,1 @@
+// What soundness says of owners: laws only.
