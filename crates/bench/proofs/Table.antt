@@ -33,6 +33,7 @@ use Rattle.turns.proofs.Bench.{desk-bench}
 use Rattle.manager.specs.Door.{trap-one, trap-two, named, checked, called}
 use Rattle.names.specs.Names.{key-of, number-in, letter, pipe, digit, number, numbered}
 use Rattle.names.specs.Names.{good as good-name, named as name-read}
+
 -- a call, and the key, D1 and A0 that it answers
 record Case : Type 0 where
   outcome : Outcome
@@ -108,5 +109,6 @@ cases =
 pub table : Answered cases × DeskBench
 unfolding fresh clear lowest-clear used ready live free-position good next starts-within starts claims pair claimed own housed zero-base priority-within accumulated-within timeout-within ends-in-one blank positioned zero-exists tag-within tags-differ tag-once owner-live owner-older zero-unowned tag-given waits-well idle-zero length-whole kind-known start-zero free-blank queue-room tiles untouched kind-fits holder-live size-right zero-right heap-right last-within current-ready sound header fits chosen split placed longer longest with-bit has-room meant longest-room length-good room-registers taken take has-position has-tag recorded counted entered owner-good owner-chosen created job-registers create naming prioritized set-priority open-channel trap-one trap-two named checked called key-of number-in letter pipe digit number numbered good-name name-read
 table = (
-    ((refl, (refl, refl)), ((refl, (refl, refl)), ((refl, (refl, refl)), ((refl, (refl, refl)), ((refl, (refl, refl)), ((refl, (refl, refl)), ((refl, (refl, refl)), ((refl, (refl, refl)), ((refl, (refl, refl)), ((refl, (refl, refl)), ((refl, (refl, refl)), ((refl, (refl, refl)), tt)))))))))))),
-    desk-bench)
+  ((refl, (refl, refl)), ((refl, (refl, refl)), ((refl, (refl, refl)), ((refl, (refl, refl)), ((refl, (refl, refl)), ((refl, (refl, refl)), ((refl, (refl, refl)), ((refl, (refl, refl)), ((refl, (refl, refl)), ((refl, (refl, refl)), ((refl, (refl, refl)), ((refl, (refl, refl)), tt)))))))))))),
+  desk-bench,
+)

@@ -2,3 +2,7 @@
 pub mod Calls
 pub mod Door
 pub mod History
+pub mod CallsQuiet
+pub mod TablesQuiet
+pub mod Quiet
+pub mod Turn
