@@ -109,7 +109,7 @@ module _ (p : List ℕ) (n : ℕ) (s : sound p ≡ true) (l : live p Channels n 
   lives = jobs-live p q jobs-same
 
   -- the other channels
-  field-old : (j f : ℕ) → j < 32 → f < 4 → (j ≡ k → ⊥) → field q Channels j f ≡ field p Channels j f
+  pub field-old : (j f : ℕ) → j < 32 → f < 4 → (j ≡ k → ⊥) → field q Channels j f ≡ field p Channels j f
   field-old j f a b m = F .other (slot Channels j + f) (away (lt-or-ge j k)) (λ e. omega arith) ∙ block-tables .words (slot Channels j + f) (let w = slot-within Channels j a in omega arith)
     where
       away : (j < k) ⊎ (k ≤ j) → Outside (slot Channels k) (slot Channels k + width Channels) (slot Channels j + f)

@@ -3,3 +3,4 @@ pub mod Jobs
 pub mod Forgotten
 pub mod Closed
 pub mod Close
+pub mod Queues

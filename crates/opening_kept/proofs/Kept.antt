@@ -123,7 +123,7 @@ module _ (p : List ℕ) (o n : ℕ) (h : sound p ≡ true) (fp : has-position p 
   cases : (j : ℕ) → used q Channels j ≡ true → (j ≡ k) ⊎ ((j ≡ k → ⊥) × (used p Channels j ≡ true))
   cases j u = new-or-old p e Channels k g o (header-byte at) E there vacant j (sym (used-step j) ∙ u)
 
-  old : (j f : ℕ) → j < positions Channels → f < 4 → (j ≡ k → ⊥) → field q Channels j f ≡ field p Channels j f
+  pub old : (j f : ℕ) → j < positions Channels → f < 4 → (j ≡ k → ⊥) → field q Channels j f ≡ field p Channels j f
   old j f l m x = field-else j f m x ∙ field-old p e Channels k g o (header-byte at) E there vacant j f l m x
 
   channels : Channels-fine q
@@ -176,7 +176,7 @@ module _ (p : List ℕ) (o n : ℕ) (h : sound p ≡ true) (fp : has-position p 
   new-block Channels i x = (k, (refl, (refl, x .1)))
   new-block Jobs i x = absurd (elsewhere (x .0))
 
-  pair : Own q Channels k at
+  pub pair : Own q Channels k at
   unfolding claims
   pair = record {
     claim = rw (le-leb 0 k (omega arith), used-new);

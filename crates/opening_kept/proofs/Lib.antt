@@ -4,3 +4,4 @@ pub mod Room
 pub mod Opened
 pub mod Kept
 pub mod Open
+pub mod Queues

@@ -199,7 +199,7 @@ module _ (p : List ℕ) (o n : ℕ) (h : sound p ≡ true) (free-place : has-pos
   pub at-start : start q at ≡ 0
   at-start = in-block (at + 3) (λ z. omega arith) (omega arith) ∙ B .its-start
 
-  at-room : (f : ℕ) → 5 ≤ f → f < 8 → word q (at + f) ≡ 0
+  pub at-room : (f : ℕ) → 5 ≤ f → f < 8 → word q (at + f) ≡ 0
   at-room f a b = in-block (at + f) (λ z. omega arith) (omega arith) ∙ B .its-room (at + f) (omega arith) (omega arith)
 
   pub at-queue : 1 ≤ n → n ≤ longest-queue → Queue q at
