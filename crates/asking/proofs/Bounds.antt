@@ -15,7 +15,7 @@ use Rattle.picture.specs.declared.Area.the-variants.{Transient}
 use Rattle.picture.proofs.Records.{used-below}
 use Rattle.blocks.proofs.Starts.{starts-in}
 use Rattle.matching.specs.Match.{claims}
-use Rattle.records.specs.Rules.{greatest-priority}
+use Rattle.picture.specs.Layout.{greatest-priority}
 use Rattle.sound.specs.Sound.{sound}
 use Rattle.facts.proofs.Sound.{Sound}
 use Rattle.facts.proofs.View.{view}

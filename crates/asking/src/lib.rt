@@ -14,7 +14,7 @@ ghost use Prim.Native.Nat.{_≤_, _<_};
 ghost use Rattle.picture.specs.Layout.{greatest-size as greatestSize};
 ghost use Rattle.picture.specs.Records.{base, priority};
 ghost use Rattle.picture.specs.declared.Table.the-variants.{Jobs};
-ghost use Rattle.records.specs.Rules.{greatest-priority as greatestPriority};
+ghost use Rattle.picture.specs.Layout.{greatest-priority as greatestPriority};
 ghost use Rattle.sound.specs.Sound.{sound};
 ghost use Rattle.calls.specs.Outcome.{Meets};
 ghost use Rattle.asking.specs.Next.{nearer, next-below as nextBelow, next-member as nextMember};

@@ -26,7 +26,7 @@ use Rattle.matching.specs.Match.{first, area-of, claims}
 use Rattle.matching.proofs.Counts.{Own}
 use Rattle.matching.proofs.Matched.{Matched}
 use Rattle.headers.proofs.Header.{same-or-not}
-use Rattle.records.specs.Rules.{greatest-priority, hold, greatest-timeout}
+use Rattle.picture.specs.Layout.{greatest-priority, hold, greatest-timeout}
 use Rattle.sound.specs.Sound.{sound}
 use Rattle.facts.proofs.Sound.{Sizes, Waits, Owned, Entries, Jobs-fine, Channels-fine, Current, Sound}
 use Rattle.facts.proofs.View.{sound-again, claims-used}

@@ -6,7 +6,7 @@ use lib.Dec.{leb, eqb}
 use Rattle.picture.specs.Layout.{nobody}
 use Rattle.picture.specs.Records.{slot, timeout}
 use Rattle.picture.specs.declared.Table.the-variants.{Jobs}
-use Rattle.records.specs.Rules.{greatest-priority}
+use Rattle.picture.specs.Layout.{greatest-priority}
 use Rattle.timeouts.specs.declared.Timeout.{Timeout}
 use Rattle.timeouts.specs.declared.Timeout.the-variants.{Zero, Frames, Endless, Bad}
 use Rattle.calls.specs.Registers.{with-D1, with-A0}

@@ -28,7 +28,8 @@ use Rattle.headers.proofs.Row.{block-of}
 use Rattle.matching.specs.Match.{first, area-of, claims}
 use Rattle.matching.proofs.Counts.{Own}
 use Rattle.matching.proofs.Matched.{Matched}
-use Rattle.records.specs.Rules.{greatest-priority, hold, greatest-timeout, may-be-unowned}
+use Rattle.records.specs.Rules.{may-be-unowned}
+use Rattle.picture.specs.Layout.{greatest-priority, hold, greatest-timeout}
 use Rattle.sound.specs.Sound.{sound}
 use Rattle.facts.proofs.Sound.{Sizes, Queue, Waits, Owned, Entries, Jobs-fine, Channels-fine, Fits, Tiled, Current, Sound}
 use Rattle.facts.proofs.View.{claims-used, view, sound-again}

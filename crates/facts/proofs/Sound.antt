@@ -18,7 +18,8 @@ use Rattle.blocks.specs.Header.{size, kind, queue-kind, job-kind, holder, start
 use Rattle.blocks.specs.Walk.{good, next, blocks}
 use Rattle.matching.specs.Match.{claims}
 use Rattle.matching.proofs.Matched.{Matched}
-use Rattle.records.specs.Rules.{greatest-priority, hold, greatest-timeout, may-be-unowned}
+use Rattle.records.specs.Rules.{may-be-unowned}
+use Rattle.picture.specs.Layout.{greatest-priority, hold, greatest-timeout}
 use Rattle.areas.specs.Rules.{longest-queue}
 
 -- the longwords before the tables

@@ -25,7 +25,8 @@ use Rattle.blocks.specs.Walk.{good, next, blocks}
 use Rattle.blocks.proofs.Walk.{Good, good-is, is-good}
 use Rattle.matching.specs.Match.{area-of, first, claims, claimed, housed}
 use Rattle.matching.proofs.Matched.{Matched, matched, matched-housed, matched-claimed}
-use Rattle.records.specs.Rules.{greatest-priority, hold, greatest-timeout, may-be-unowned, zero-base, priority-within, accumulated-within, timeout-within, ends-in-one, blank, positioned, zero-exists, tag-within, tags-differ, tag-once, owner-live, owner-older, zero-unowned, tag-given, waits-well, idle-zero}
+use Rattle.records.specs.Rules.{may-be-unowned, zero-base, priority-within, accumulated-within, timeout-within, ends-in-one, blank, positioned, zero-exists, tag-within, tags-differ, tag-once, owner-live, owner-older, zero-unowned, tag-given, waits-well, idle-zero}
+use Rattle.picture.specs.Layout.{greatest-priority, hold, greatest-timeout}
 use Rattle.areas.specs.Rules.{longest-queue, length-whole, kind-known, start-zero, free-blank, queue-room, tiles, untouched, kind-fits, holder-live}
 use Rattle.sound.specs.Whole.{size-right, zero-right, heap-right, last-within, current-ready}
 use Rattle.sound.specs.Sound.{rules, sound}

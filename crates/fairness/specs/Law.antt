@@ -4,7 +4,8 @@ use mathlib.Core.Path.{_≡_}
 use mathlib.Core.List.{List, List·Memᴰ}
 use Prim.Native.Nat.{ℕ, _+_, _*_, _-_, _/_, _≤_, _<_}
 use lib.ListN.{length, take, drop}
-use Rattle.fairness.specs.Turns.{Turns, greatest-priority, hold}
+use Rattle.fairness.specs.Turns.{Turns}
+use Rattle.picture.specs.Layout.{greatest-priority, hold}
 
 -- of so many picks in a row one is the job's
 abbrev pub within : ℕ → ℕ → ℕ → ℕ

@@ -5,14 +5,6 @@ use mathlib.Core.Path.{_≡_}
 use mathlib.Core.List.{List, [], _∷_}
 use Prim.Native.Nat.{ℕ, _+_, _≤_, _<_, min}
 
--- document 01: priority 0 to 127
-abbrev pub greatest-priority : ℕ
-greatest-priority = 127
-
--- document 01: accumulated 0 to 8,191
-abbrev pub hold : ℕ
-hold = 8191
-
 -- From just before a pick, where position i has accumulated a i, to just before the next, where it has b i; the pick took position m.
 -- No position had accumulated more than m. Where m is not j, m is left with 0 and j gains its priority, held at h; any other gains at most g.
 pub record Turn (n g h j p : ℕ) (a : ℕ → ℕ) (m : ℕ) (b : ℕ → ℕ) : Type 0 where

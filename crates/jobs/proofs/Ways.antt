@@ -9,7 +9,7 @@ use Rattle.picture.specs.Keys.{done, not-complete, invalid-job, bad-parameter}
 use Rattle.picture.specs.Records.{active}
 use Rattle.picture.specs.Numbers.{position, live}
 use Rattle.picture.specs.declared.Table.the-variants.{Jobs}
-use Rattle.records.specs.Rules.{greatest-priority}
+use Rattle.picture.specs.Layout.{greatest-priority}
 use Rattle.timeouts.specs.Timeout.{timeout-in, longword}
 use Rattle.timeouts.specs.declared.Timeout.{Timeout}
 use Rattle.calls.specs.Outcome.{Outcome, refuse, succeed, Meets}

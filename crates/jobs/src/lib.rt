@@ -61,7 +61,7 @@ pub fn activate(p: &mut [u32], d: &mut [u32]) -> i32
         return picture::NOT_COMPLETE;
     }
     let priority = word(d, calls::D2) % 256;
-    if !((1 <= priority) & (priority <= records::GREATEST_PRIORITY)) {
+    if !((1 <= priority) & (priority <= picture::GREATEST_PRIORITY)) {
         return picture::BAD_PARAMETER;
     }
     let t = timeouts::timeout_in(word(d, calls::D3));
@@ -85,7 +85,7 @@ pub fn set_priority(p: &mut [u32], d: &mut [u32]) -> i32
         return picture::INVALID_JOB;
     };
     let priority = word(d, calls::D2) % 256;
-    if records::GREATEST_PRIORITY < priority {
+    if picture::GREATEST_PRIORITY < priority {
         return picture::BAD_PARAMETER;
     }
     effects::put_priority(p, k, priority);

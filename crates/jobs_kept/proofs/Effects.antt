@@ -16,7 +16,7 @@ use Rattle.picture.specs.Records.{slot, field, number, priority, accumulated, t
 use Rattle.picture.specs.Numbers.{position, live}
 use Rattle.picture.specs.declared.Table.the-variants.{Jobs}
 use Rattle.picture.proofs.Records.{used-below}
-use Rattle.records.specs.Rules.{greatest-priority, hold, greatest-timeout}
+use Rattle.picture.specs.Layout.{greatest-priority, hold, greatest-timeout}
 use Rattle.facts.proofs.Sound.{Sizes, Waits, Jobs-fine, Sound}
 use Rattle.calls.specs.Writes.{with-field}
 use Rattle.steady.proofs.Steady.{Steady, Turning, steady-live, waits-kept, sound-turning}

@@ -17,7 +17,7 @@ use Rattle.picture.specs.Numbers.{position, live}
 use Rattle.picture.specs.declared.Table.{Table}
 use Rattle.picture.specs.declared.Table.the-variants.{Jobs}
 use Rattle.picture.proofs.Numbers.{Live, live-is}
-use Rattle.records.specs.Rules.{greatest-priority, greatest-timeout}
+use Rattle.picture.specs.Layout.{greatest-priority, greatest-timeout}
 use Rattle.sound.specs.Sound.{sound}
 use Rattle.facts.proofs.Sound.{Sizes, Current, Sound}
 use Rattle.facts.proofs.View.{view, sound-again}

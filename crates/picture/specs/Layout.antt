@@ -71,3 +71,13 @@ from p Transient = heap-base + word p heap-word
 abbrev pub upto : List ℕ → Area → ℕ
 upto p Heap = heap-base + word p heap-word
 upto p Transient = word p size-word
+
+-- priorities run to 127, accumulated to 8,191, timeouts to 32,767 frames
+abbrev pub greatest-priority : ℕ
+greatest-priority = 127
+
+abbrev pub hold : ℕ
+hold = 8191
+
+abbrev pub greatest-timeout : ℕ
+greatest-timeout = 32767

@@ -42,6 +42,13 @@ pub const CHANNEL_WIDTH: usize = 4;
 // Tags run to this one.
 pub const GREATEST_TAG: u32 = 32767;
 
+// Priorities run to this one, accumulated is held here, and a timeout has at most so many frames.
+pub const GREATEST_PRIORITY: u32 = 127;
+
+pub const HOLD: u32 = 8191;
+
+pub const GREATEST_TIMEOUT: u32 = 32767;
+
 // The fields of a record; the first three are those of a channel too, whose last is ENDING.
 pub const NUMBER: usize = 0;
 

@@ -17,7 +17,7 @@ use Rattle.picture.specs.Numbers.{position, live}
 use Rattle.picture.specs.declared.Table.the-variants.{Jobs}
 use Rattle.picture.proofs.Records.{used-below}
 use Rattle.picture.proofs.Numbers.{Live, live-is}
-use Rattle.records.specs.Rules.{greatest-timeout}
+use Rattle.picture.specs.Layout.{greatest-timeout}
 use Rattle.timeouts.specs.Timeout.{timeout-of, timeout-in, low-half, longword}
 use Rattle.timeouts.specs.declared.Timeout.{Timeout}
 use Rattle.timeouts.specs.declared.Timeout.the-variants.{Zero, Frames, Endless, Bad}

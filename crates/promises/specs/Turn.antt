@@ -1,18 +1,18 @@
 -- Demand 3: "Take document 01's pick rule and any stretch of picks from a sound picture, with only trap calls and ticks between them. A job
 -- that stays ready all through, at one priority p from 1 to 127, with no priority call naming it, is picked at least once in every
 -- 2 + floor(3810 / p) picks in a row, whatever the other jobs create, end, suspend or raise meanwhile."
-use Prim.Native.Nat.{ℕ, _+_, _/_, _<_, _≤_}
+use Prim.Native.Nat.{ℕ, _+_, _<_, _≤_}
 use mathlib.Core.Path.{_≡_}
 use mathlib.Core.Bool.{true}
 use mathlib.Core.List.{List, [], _∷_}
 use Rattle.words.specs.Words.{word}
-use Rattle.picture.specs.Layout.{positions}
+use Rattle.picture.specs.Layout.{positions, greatest-priority}
 use Rattle.picture.specs.declared.Table.the-variants.{Jobs}
 use Rattle.sound.specs.Sound.{sound}
 use Rattle.calls.specs.Registers.{D1, meant}
 use Rattle.fairness.specs.Law.{InEvery}
 use Rattle.turns.specs.Pick.{picked-number}
-use Rattle.turns.specs.Stretch.{Stands}
+use Rattle.turns.specs.Stretch.{Stands, pick-bound}
 use Rattle.promises.specs.History.{Event, trap, pick, tick, after}
 
 -- the trap and the code of the priority call
@@ -42,4 +42,4 @@ answers (tick ∷ events) p = answers events (after tick p)
 
 -- A TURN THAT CAN'T BE LOST
 abbrev pub TurnNotLost : Type 0
-TurnNotLost = (n j g : ℕ) → j < positions Jobs → 0 < g → g ≤ 127 → (p : List ℕ) → sound p ≡ true → (events : List Event) → Stays n j g p events → InEvery (2 + 3810 / g) n (answers events p)
+TurnNotLost = (n j g : ℕ) → j < positions Jobs → 0 < g → g ≤ greatest-priority → (p : List ℕ) → sound p ≡ true → (events : List Event) → Stays n j g p events → InEvery (pick-bound g) n (answers events p)

@@ -5,7 +5,7 @@ use mathlib.Core.List.{List}
 use lib.Dec.{leb, ltb, eqb}
 use Rattle.words.specs.Words.{word}
 use Rattle.words.specs.Each.{every}
-use Rattle.picture.specs.Layout.{nobody, width, last-word, greatest-tag}
+use Rattle.picture.specs.Layout.{nobody, width, last-word, greatest-tag, greatest-priority, hold, greatest-timeout}
 use Rattle.picture.specs.Records.{field, number, owner, base, priority, accumulated, timeout, waited-for, ending, used, ready}
 use Rattle.picture.specs.Numbers.{tag, position, live}
 use Rattle.picture.specs.declared.Table.{Table}
@@ -17,23 +17,14 @@ unfoldable pub zero-base : List ℕ → ℕ → Bool
 zero-base p k = not (eqb k 0) || eqb (base p Jobs k) 0
 
 -- "priority 0 to 127"
-abbrev pub greatest-priority : ℕ
-greatest-priority = 127
-
 unfoldable pub priority-within : List ℕ → ℕ → Bool
 priority-within p k = leb (priority p k) greatest-priority
 
 -- "accumulated 0 to 8,191"
-abbrev pub hold : ℕ
-hold = 8191
-
 unfoldable pub accumulated-within : List ℕ → ℕ → Bool
 accumulated-within p k = leb (accumulated p k) hold
 
 -- "timeout (signed: 0 not suspended, -1 without end, else 1 to 32,767 frames left)"
-abbrev pub greatest-timeout : ℕ
-greatest-timeout = 32767
-
 unfoldable pub timeout-within : List ℕ → ℕ → Bool
 timeout-within p k = leb (timeout p k) greatest-timeout || eqb (timeout p k) nobody
 

@@ -1,4 +1,7 @@
 // The rules of soundness for the records of the tables, a function each.
+use picture::GREATEST_PRIORITY;
+use picture::GREATEST_TIMEOUT;
+use picture::HOLD;
 use picture::NOBODY;
 use picture::Table;
 use picture::field_of;
@@ -15,12 +18,6 @@ ghost use Rattle.records.specs.Rules.{blank, positioned, zero-base as ze
 ghost use Rattle.records.specs.Rules.{timeout-within as timeoutWithin, ends-in-one as endsInOne, zero-exists as zeroExists, tag-within as tagWithin};
 ghost use Rattle.records.specs.Rules.{tags-differ as tagsDiffer, tag-once as tagOnce, may-be-unowned as mayBeUnowned, owner-live as ownerLive, owner-older as ownerOlder};
 ghost use Rattle.records.specs.Rules.{zero-unowned as zeroUnowned, tag-given as tagGiven, waits-well as waitsWell, idle-zero as idleZero};
-
-pub const GREATEST_PRIORITY: u32 = 127;
-
-pub const HOLD: u32 = 8191;
-
-pub const GREATEST_TIMEOUT: u32 = 32767;
 
 // The tag of the number at position k.
 pub fn tag_at(p: &[u32], t: Table, k: usize) -> u32

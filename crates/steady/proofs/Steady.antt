@@ -19,7 +19,7 @@ use Rattle.picture.specs.declared.Area.{Area}
 use Rattle.picture.specs.declared.Area.the-variants.{Heap, Transient}
 use Rattle.matching.specs.Match.{area-of}
 use Rattle.matching.proofs.Matched.{Matched}
-use Rattle.records.specs.Rules.{greatest-priority, hold, greatest-timeout}
+use Rattle.picture.specs.Layout.{greatest-priority, hold, greatest-timeout}
 use Rattle.facts.proofs.Sound.{Sizes, Waits, Entries, Jobs-fine, Channels-fine, Tiled, Current, Sound}
 use Rattle.facts.proofs.Same.{Lives, used-same, live-same, EntriesSame, entries-same, AreaSame, blocks-same, kind-same, holder-same, tiled-same, MatchSame, matched-same}
 use Rattle.facts.proofs.Ages.{Ages, ages-same}

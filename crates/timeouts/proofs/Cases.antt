@@ -13,7 +13,7 @@ use mir.Val.{toZ, ofZ, SFits}
 use mir.ValLaws.{toZ-pos, toZ-neg, toZ-ofZ, toZ-fits}
 use Rattle.words.proofs.Signed.{by-bits}
 use Rattle.picture.specs.Layout.{nobody}
-use Rattle.records.specs.Rules.{greatest-timeout}
+use Rattle.picture.specs.Layout.{greatest-timeout}
 use Rattle.timeouts.specs.Timeout.{timeout-of, low-half, timeout-in, longword}
 use Rattle.timeouts.specs.declared.Timeout.{Timeout}
 use Rattle.timeouts.specs.declared.Timeout.the-variants.{Zero, Frames, Endless, Bad}

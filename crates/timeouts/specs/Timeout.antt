@@ -6,7 +6,7 @@ use lib.IntN.{ℤ, pos, negsuc}
 use mir.Syntax.{w16}
 use mir.Val.{toZ}
 use Rattle.picture.specs.Layout.{nobody}
-use Rattle.records.specs.Rules.{greatest-timeout}
+use Rattle.picture.specs.Layout.{greatest-timeout}
 use Rattle.timeouts.specs.declared.Timeout.{Timeout}
 use Rattle.timeouts.specs.declared.Timeout.the-variants.{Zero, Frames, Endless, Bad}
 

@@ -13,7 +13,7 @@ use Rattle.words.proofs.Tests.{both, failing}
 use Rattle.picture.specs.Layout.{positions}
 use Rattle.picture.specs.Records.{slot, number, priority, accumulated, ready}
 use Rattle.picture.specs.declared.Table.the-variants.{Jobs}
-use Rattle.fairness.specs.Turns.{greatest-priority}
+use Rattle.picture.specs.Layout.{greatest-priority}
 use Rattle.turns.specs.Fields.{set-each}
 use Rattle.turns.specs.Pick.{preferred, chosen-below, chosen-job, accumulated-after, turn-given, picked, picked-number}
 use Rattle.turns.specs.Stretch.{Orderly, Stands, Stretch, over, pick}

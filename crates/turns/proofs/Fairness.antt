@@ -11,7 +11,8 @@ use Rattle.picture.specs.Layout.{positions}
 use Rattle.picture.specs.Records.{number, accumulated, ready}
 use Rattle.picture.specs.declared.Table.the-variants.{Jobs}
 use Rattle.fairness.specs.Turns as law
-use Rattle.fairness.specs.Turns.{Turn, Turns, greatest-priority, hold}
+use Rattle.fairness.specs.Turns.{Turn, Turns}
+use Rattle.picture.specs.Layout.{greatest-priority, hold}
 use Rattle.fairness.specs.Law.{within, InEvery}
 use Rattle.fairness.proofs.Fair.{picked-among, length-row}
 use Rattle.turns.specs.Pick.{chosen-job, accumulated-after, picked, picked-number}

@@ -15,7 +15,7 @@ use Rattle.words.proofs.Tests.{both}
 use Rattle.picture.specs.Layout.{nobody, current-word, positions, width}
 use Rattle.picture.specs.Records.{slot, field, number, priority, accumulated, timeout, ready}
 use Rattle.picture.specs.declared.Table.the-variants.{Jobs}
-use Rattle.fairness.specs.Turns.{hold}
+use Rattle.picture.specs.Layout.{hold}
 use Rattle.turns.specs.Fields.{number-field, priority-field, accumulated-field, timeout-field, delivered-field}
 use Rattle.turns.specs.Pick.{chosen-job, accumulated-after, picked}
 use Rattle.turns.specs.Tick.{ticked}

@@ -16,7 +16,7 @@ use Rattle.picture.specs.Layout.{nobody, current-word, positions, width}
 use Rattle.picture.specs.Keys.{done}
 use Rattle.picture.specs.Records.{field, number, priority, accumulated, timeout, delivered, ready}
 use Rattle.picture.specs.declared.Table.the-variants.{Jobs}
-use Rattle.fairness.specs.Turns.{hold}
+use Rattle.picture.specs.Layout.{hold}
 use Rattle.turns.specs.Fields.{priority-field, accumulated-field, timeout-field, set-each}
 use Rattle.turns.specs.Pick.{preferred, chosen-below, chosen-job, accumulated-after, turn-given, picked, picked-number, picked-key, answer}
 use Rattle.turns.specs.declared.Picked.{Picked}

@@ -7,7 +7,7 @@ use lib.ListN.{length, replicate}
 use Rattle.picture.specs.Layout.{nobody, positions, width, heap-base}
 use Rattle.picture.specs.Numbers.{number-of}
 use Rattle.picture.specs.declared.Table.the-variants.{Jobs, Channels}
-use Rattle.fairness.specs.Turns.{greatest-priority}
+use Rattle.picture.specs.Layout.{greatest-priority}
 use Rattle.turns.specs.Pick.{chosen-job, picked, picked-number}
 use Rattle.turns.specs.Stretch.{Stretch}
 

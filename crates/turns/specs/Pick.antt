@@ -11,7 +11,7 @@ use Rattle.picture.specs.Layout.{nobody, current-word, positions}
 use Rattle.picture.specs.Records.{slot, number, priority, accumulated, delivered, ready}
 use Rattle.picture.specs.Keys.{done}
 use Rattle.picture.specs.declared.Table.the-variants.{Jobs}
-use Rattle.fairness.specs.Turns.{hold}
+use Rattle.picture.specs.Layout.{hold}
 use Rattle.turns.specs.Fields.{accumulated-field, delivered-field, set-each}
 use Rattle.turns.specs.declared.Picked.{Picked}
 

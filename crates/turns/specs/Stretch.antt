@@ -10,7 +10,7 @@ use lib.ListN.{length}
 use Rattle.picture.specs.Layout.{positions}
 use Rattle.picture.specs.Records.{slot, number, priority, accumulated, ready}
 use Rattle.picture.specs.declared.Table.the-variants.{Jobs}
-use Rattle.fairness.specs.Turns.{greatest-priority}
+use Rattle.picture.specs.Layout.{greatest-priority}
 use Rattle.fairness.specs.Law.{InEvery}
 use Rattle.turns.specs.Pick.{picked, picked-number}
 
@@ -44,6 +44,10 @@ pub data Stretch (n j g : ℕ) : List ℕ → List ℕ → Type 0 where
   pick : {p numbers : List ℕ} → Orderly p → Stands n j g p → Stretch n j g (picked p) numbers → Stretch n j g p (picked-number p ∷ numbers)
   quiet : {p q numbers : List ℕ} → Quiet j p q → Stretch n j g q numbers → Stretch n j g p numbers
 
--- A TURN THAT CAN'T BE LOST: the job's number is among every 2 + floor(3810 / g) answers in a row
+-- of so many picks in a row one is the job's, ready at priority g
+abbrev pub pick-bound : ℕ → ℕ
+pick-bound g = 2 + 3810 / g
+
+-- A TURN THAT CAN'T BE LOST: the job's number is among every so many answers in a row
 abbrev pub NoTurnLost : Type 0
-NoTurnLost = (n j g : ℕ) → j < positions Jobs → 0 < g → g ≤ greatest-priority → (p numbers : List ℕ) → Stretch n j g p numbers → InEvery (2 + 3810 / g) n numbers
+NoTurnLost = (n j g : ℕ) → j < positions Jobs → 0 < g → g ≤ greatest-priority → (p numbers : List ℕ) → Stretch n j g p numbers → InEvery (pick-bound g) n numbers

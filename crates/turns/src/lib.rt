@@ -3,6 +3,7 @@ use picture::ACCUMULATED;
 use picture::CURRENT_WORD;
 use picture::DELIVERED;
 use picture::DONE;
+use picture::HOLD;
 use picture::JOBS;
 use picture::NOBODY;
 use picture::NUMBER;
@@ -21,16 +22,10 @@ ghost use Rattle.words.specs.Words.{put};
 ghost use Rattle.picture.specs.Layout.{positions, width};
 ghost use Rattle.picture.specs.Records.{slot};
 ghost use Rattle.picture.specs.declared.Table.the-variants.{Jobs};
-ghost use Rattle.fairness.specs.Turns.{hold};
+ghost use Rattle.picture.specs.Layout.{hold};
 ghost use Rattle.turns.specs.Fields.{set-each as setEach, accumulated-field as accumulatedField};
 ghost use Rattle.turns.specs.Pick.{preferred, chosen-job as chosenJob, accumulated-after as accumulatedAfter, picked, answer};
 ghost use Rattle.turns.specs.Tick.{fallen, ticked};
-
-// Accumulated is held here.
-pub const HOLD: u32 = 8191;
-
-// Priorities run to this one.
-pub const GREATEST_PRIORITY: u32 = 127;
 
 // From here on a longword read as signed is negative.
 const FIRST_NEGATIVE: u32 = 0x8000_0000;

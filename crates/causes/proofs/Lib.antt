@@ -1,0 +1,3 @@
+-- The causes of the keys, proved.
+pub mod Causes
+pub mod Names

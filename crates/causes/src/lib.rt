@@ -1,0 +1,1 @@
+// Each key only for its cause: laws only.
