@@ -26,7 +26,8 @@ use Rattle.manager.specs.Door.{named, checked, with-key, called}
 use Rattle.manager.specs.Turn.{pick-picture, ticking}
 use Rattle.turned.proofs.Pick.{pick-ages}
 use Rattle.turned.proofs.Tick.{tick-ages}
-use Rattle.promises.specs.History.{Event, trap, pick, tick, after, run, AlwaysSound, DeadStaysDead, LastTagNeverFalls}
+use Rattle.promises.specs.History.{Event, trap, pick, tick, after, run, AlwaysSound, DeadStaysDead, LastTagNeverFalls, EndingTakesNoMore}
+use Rattle.ended.proofs.Promise.{ending-leaves-others, ending-takes-the-tree}
 use Rattle.promises.proofs.Calls.{EachCall, each-call}
 use Rattle.promises.proofs.Door.{checked-by, call-keeps-sound, pick-keeps, tick-keeps}
 use Rattle.jobs_kept.proofs.Kept.{information-ages, suspend-ages, release-ages, activate-ages, set-priority-ages}
@@ -125,3 +126,8 @@ dead-stays-dead n h g t number first then later l d =
     let y = run-ages then a s t .rises in
     let w : live b t number ≡ false = rw (run-then first then f) at d in
     rw (run-then first (then ++ later) f, run-then then later a) (stays-dead b (run later b) t number (run-ages later b u t) (omega arith) w)
+
+pub ending-takes-no-more : EndingTakesNoMore
+ending-takes-no-more n h g events t key u z =
+    let s = always-sound n h g events in
+    (ending-leaves-others (run events (fresh n h)) t key s u z, ending-takes-the-tree (run events (fresh n h)) t key s u z)
