@@ -9,7 +9,7 @@ use native.Mathlib.Omega.{arith}
 use borrow.Author.Tests.{eqb-true, eq-eqb}
 use Rattle.words.specs.Each.{every, one, sum, count, all, any, total, In}
 use Rattle.words.proofs.Tests.{both, unless, false-true}
-use Rattle.words.proofs.Each.{every-at, every-by, all-at, sum-zero, sum-squeeze, sum-same, swap, total-same}
+use Rattle.words.proofs.Each.{every-at, every-by, all-at, all-by, sum-zero, sum-le, sum-squeeze, sum-same, count-at, swap, total-same}
 use Rattle.picture.specs.Layout.{positions}
 use Rattle.picture.specs.Records.{owner, base}
 use Rattle.picture.specs.declared.Table.{Table}
@@ -18,6 +18,22 @@ use Rattle.blocks.specs.Header.{kind, holder, kind-of}
 use Rattle.blocks.specs.Walk.{starts, blocks}
 use Rattle.blocks.proofs.Starts.{Rising, starts-rising}
 use Rattle.matching.specs.Match.{area-of, claims, pair, claimed, own, housed}
+
+total-le : (a b : ℕ → ℕ) (l : List ℕ) → ((i : ℕ) → In i l → a i ≤ b i) → total a l ≤ total b l
+total-le a b [] h = omega arith
+total-le a b (x ∷ l) h = let r = total-le a b l (λ i m. h i (inr m)) in let y = h x (inl refl) in omega arith
+
+-- equal totals of terms that are at most others: the terms are equal
+total-squeeze : (a b : ℕ → ℕ) (l : List ℕ) → ((i : ℕ) → In i l → a i ≤ b i) → total a l ≡ total b l → (i : ℕ) → In i l → a i ≡ b i
+total-squeeze a b [] h q i m = absurd m
+total-squeeze a b (x ∷ l) h q i (inl e) =
+    let r = total-le a b l (λ j o. h j (inr o)) in
+    let y = h x (inl refl) in
+    ap a e ∙ (let f : a x ≡ b x = omega arith in f) ∙ ap b (sym e)
+total-squeeze a b (x ∷ l) h q i (inr m) =
+    let r = total-le a b l (λ j o. h j (inr o)) in
+    let y = h x (inl refl) in
+    total-squeeze a b l (λ j o. h j (inr o)) (omega arith) i m
 
 module _ (p : List ℕ) (t : Table) where
   -- what a block says that is the one of the entry at position k
@@ -71,8 +87,40 @@ module _ (p : List ℕ) (t : Table) where
       go true r = (λ h. refl, λ h. omega arith)
       go false r = (λ h. r .0 (omega arith), λ h. let z = r .1 h in omega arith)
 
+  at-most : (k : ℕ) → hits k (blocks p (area-of t)) ≤ one (claims p t k)
+  at-most k = hits-le k (from p (area-of t)) (upto p (area-of t)) (blocks p (area-of t)) (starts-rising p (from p (area-of t)) (upto p (area-of t)))
+
+  -- how many entries the block at i is that of
+  abbrev heirs-of : ℕ → ℕ
+  heirs-of i = sum (λ (k : ℕ). one (own p t k i)) (positions t)
+
+  claimed-by : (i : ℕ) → one (eqb (kind p i) (kind-of t)) ≡ heirs-of i → claimed p t i ≡ true
+  unfolding claimed own
+  claimed-by i h = go (eqb (kind p i) (kind-of t)) h
+    where
+      go : (b : Bool) → one b ≡ sum (λ (k : ℕ). one (b && pair p t k i)) (positions t) → not b || eqb (count (λ (k : ℕ). pair p t k i) (positions t)) 1 ≡ true
+      go true q = eq-eqb _ _ (sym q)
+      go false q = refl
+
+  -- each block of the kind has an heir, and there are as many blocks as entries: it has exactly one
+  pub heirs-claimed : ((i : ℕ) → In i (blocks p (area-of t)) → kind p i ≡ kind-of t → (k : ℕ) × ((k < positions t) × Own k i))
+      → total (λ (i : ℕ). one (eqb (kind p i) (kind-of t))) (blocks p (area-of t)) ≡ count (claims p t) (positions t)
+      → all (claimed p t) (blocks p (area-of t)) ≡ true
+  heirs-claimed heir h =
+      let many = total-le (λ (i : ℕ). one (eqb (kind p i) (kind-of t))) heirs-of (blocks p (area-of t)) at-least in
+      let turned = swap (λ (i k : ℕ). one (own p t k i)) (positions t) (blocks p (area-of t)) in
+      let few = sum-le (λ (k : ℕ). hits k (blocks p (area-of t))) (λ (k : ℕ). one (claims p t k)) (positions t) (λ k _. at-most k) in
+      all-by (claimed p t) (blocks p (area-of t)) λ i m. claimed-by i (total-squeeze (λ (i : ℕ). one (eqb (kind p i) (kind-of t))) heirs-of (blocks p (area-of t)) at-least (omega arith) i m)
+    where
+      at-least : (i : ℕ) → In i (blocks p (area-of t)) → one (eqb (kind p i) (kind-of t)) ≤ heirs-of i
+      at-least i m = go (eqb (kind p i) (kind-of t)) refl
+        where
+          go : (b : Bool) → eqb (kind p i) (kind-of t) ≡ b → one b ≤ heirs-of i
+          go true q = let s = heir i m (eqb-true _ _ q) in let c = count-at (λ (k : ℕ). own p t k i) (positions t) (s .0) (s .1 .0) (own-is (s .0) i (s .1 .1)) in omega arith
+          go false q = omega arith
+
   -- a block of the kind is counted once, by the one entry whose it is
-  counted : (i : ℕ) → claimed p t i ≡ true → one (eqb (kind p i) (kind-of t)) ≡ sum (λ (k : ℕ). one (own p t k i)) (positions t)
+  counted : (i : ℕ) → claimed p t i ≡ true → one (eqb (kind p i) (kind-of t)) ≡ heirs-of i
   unfolding claimed own
   counted i h = go (eqb (kind p i) (kind-of t)) h
     where
@@ -85,9 +133,6 @@ module _ (p : List ℕ) (t : Table) where
     by-positions =
         total-same _ _ (blocks p (area-of t)) (λ i m. counted i (all-at (claimed p t) (blocks p (area-of t)) whole i m))
         ∙ swap (λ (i k : ℕ). one (own p t k i)) (positions t) (blocks p (area-of t))
-
-    at-most : (k : ℕ) → hits k (blocks p (area-of t)) ≤ one (claims p t k)
-    at-most k = hits-le k (from p (area-of t)) (upto p (area-of t)) (blocks p (area-of t)) (starts-rising p (from p (area-of t)) (upto p (area-of t)))
 
     -- as many blocks as entries: nobody is without
     pub counts-housed : total (λ (i : ℕ). one (eqb (kind p i) (kind-of t))) (blocks p (area-of t)) ≡ count (claims p t) (positions t) → every (housed p t) (positions t) ≡ true

@@ -1,11 +1,19 @@
-// The matching of live jobs and channels with their blocks.
+// The matching of live jobs and channels with their blocks, in a picture that has its tables.
 use picture::Table;
-use words::word;
+use tables::field_of;
 ghost use mathlib.Core.Path.{_≡_};
-ghost use Prim.Native.Nat.{_+_, _*_, _≤_, _<_};
-ghost use Rattle.words.specs.Each.{one, count};
-ghost use Rattle.picture.specs.Layout.{positions};
-ghost use Rattle.matching.specs.Match.{first, claims, pair, claimed};
+ghost use Prim.Native.Nat.{_+_, _≤_, _<_};
+ghost use lib.ListN.{length};
+ghost use Rattle.words.specs.Each.{one};
+ghost use Rattle.picture.specs.Layout.{positions, heap-base as heapBase};
+ghost use Rattle.matching.specs.Match.{first};
+ghost use Rattle.matching.specs.Met.{meets, met, noticed};
+
+// How a walk over a table or an area ends: at something that breaks a rule, or with what it counted.
+pub enum Walked {
+    Broken,
+    Counted(usize),
+}
 
 // The first position whose entry has a block.
 pub fn first_of(t: Table) -> usize
@@ -15,24 +23,6 @@ pub fn first_of(t: Table) -> usize
         Table::Jobs => 1,
         Table::Channels => 0,
     }
-}
-
-// The entry at position k is live and has a block.
-pub fn has_block(p: &[u32], t: Table, k: usize) -> bool
-    ensures { λ r. ⌜ r ≡ claims (now (p .entry)) t k ⌝ }
-{
-    (first_of(t) <= k) & picture::is_used(p, t, k)
-}
-
-// The block at i is that of the entry at position k.
-pub fn is_pair(p: &[u32], t: Table, k: usize, i: usize) -> bool
-    requires { ⌜ (k < positions t) × (i < 8589934592) ⌝ }
-    ensures { λ r. ⌜ r ≡ pair (now (p .entry)) t k i ⌝ }
-{
-    if picture::field_of(p, t, k, picture::BASE) as usize != 4 * i {
-        return false;
-    }
-    has_block(p, t, k) & (picture::field_of(p, t, k, picture::OWNER) == word(p, i + 2))
 }
 
 // 1 for a test that passes, 0 for one that fails.
@@ -45,42 +35,48 @@ pub fn one_of(b: bool) -> usize
     0
 }
 
-// How many entries the block at i is that of.
-pub fn count_pairs(p: &[u32], t: Table, i: usize) -> usize
-    requires { ⌜ i < 8589934592 ⌝ }
-    ensures { λ r. ⌜ r ≡ count (λ k. pair (now (p .entry)) t k i) (positions t) ⌝ }
+// The block at i and the record of position k agree: base and owner.
+pub fn is_meeting(p: &[u32], t: Table, k: usize, i: usize) -> bool
+    requires { ⌜ (heapBase ≤ length (now p)) × ((k < positions t) × ((i + 2 < length (now p)) × (i < 8589934592))) ⌝ }
+    ensures { λ r. ⌜ r ≡ meets (now (p .entry)) t k i ⌝ }
 {
-    let n = picture::positions_of(t);
-    let mut pairs = 0;
-    let mut k = 0;
-    while k < n {
-        pairs += one_of(is_pair(p, t, k, i));
-        k += 1;
+    if field_of(p, t, k, picture::BASE) as usize != 4 * i {
+        return false;
     }
-    pairs
+    field_of(p, t, k, picture::OWNER) == tables::word_at(p, i + 2)
 }
 
-// A block of the table's kind is that of exactly one entry.
-pub fn is_claimed(p: &[u32], t: Table, i: usize) -> bool
-    requires { ⌜ i < 8589934592 ⌝ }
-    ensures { λ r. ⌜ r ≡ claimed (now (p .entry)) t i ⌝ }
-{
-    if word(p, i + 1) == blocks::kind_of(t) {
-        return count_pairs(p, t, i) == 1;
-    }
-    true
-}
-
-// How many entries of the table have a block.
-pub fn count_claims(p: &[u32], t: Table) -> usize
-    ensures { λ r. ⌜ r ≡ count (claims (now (p .entry)) t) (positions t) ⌝ }
+// The block at i agrees with some record of the table, which is looked for among all.
+pub fn is_met(p: &[u32], t: Table, i: usize) -> bool
+    requires { ⌜ (heapBase ≤ length (now p)) × ((i + 2 < length (now p)) × (i < 8589934592)) ⌝ }
+    ensures { λ r. ⌜ r ≡ met (now (p .entry)) t i ⌝ }
 {
     let n = picture::positions_of(t);
-    let mut claims = 0;
     let mut k = 0;
     while k < n {
-        claims += one_of(has_block(p, t, k));
+        if is_meeting(p, t, k, i) {
+            return true;
+        }
         k += 1;
     }
-    claims
+    false
+}
+
+// A noted position as an index.
+fn wide(position: u8) -> usize
+    ensures { λ r. ⌜ r ≡ position ⌝ }
+{
+    position as usize
+}
+
+// The block at i agrees with the record at the position noted for its place.
+pub fn is_noticed(p: &[u32], t: Table, i: usize, noted: &[u8; 64]) -> bool
+    requires { ⌜ (heapBase ≤ length (now p)) × ((i + 2 < length (now p)) × (i < 8589934592)) ⌝ }
+    ensures { λ r. ⌜ r ≡ noticed (now (p .entry)) t i (now (noted .entry)) ⌝ }
+{
+    let k = wide(noted[i / 4 % 64]);
+    if picture::positions_of(t) <= k {
+        return false;
+    }
+    is_meeting(p, t, k, i)
 }

@@ -1,5 +1,5 @@
 -- Laws of the definitions of specs/.
 pub mod Holds
-pub mod Unused
+pub mod Room
+pub mod Halves
 pub mod Fused
-pub mod Walks

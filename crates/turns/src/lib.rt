@@ -1,4 +1,4 @@
-// Turns: the pick, which gives one job its turn, and the tick of a frame. Both take any contents.
+// Turns: the pick, which gives one job its turn, and the tick of a frame. Both take any contents that have their tables.
 use picture::ACCUMULATED;
 use picture::CURRENT_WORD;
 use picture::DELIVERED;
@@ -10,19 +10,20 @@ use picture::NUMBER;
 use picture::PRIORITY;
 use picture::TIMEOUT;
 use picture::Table;
-use picture::field_of;
-use picture::is_ready;
 use picture::slot_of;
+use tables::field_of;
+use tables::is_ready;
 use words::put;
 ghost use mathlib.Core.Path.{_≡_};
 ghost use Prim.Native.Nat.{_+_, _<_, _≤_, min};
+ghost use lib.ListN.{length};
 ghost use mir.Syntax.{w32};
 ghost use mir.Val.{toZ};
 ghost use Rattle.words.specs.Words.{put};
 ghost use Rattle.picture.specs.Layout.{positions, width};
 ghost use Rattle.picture.specs.Records.{slot};
 ghost use Rattle.picture.specs.declared.Table.the-variants.{Jobs};
-ghost use Rattle.picture.specs.Layout.{hold};
+ghost use Rattle.picture.specs.Layout.{hold, heap-base as heapBase};
 ghost use Rattle.turns.specs.Fields.{set-each as setEach, accumulated-field as accumulatedField};
 ghost use Rattle.turns.specs.Pick.{preferred, chosen-job as chosenJob, accumulated-after as accumulatedAfter, picked, answer};
 ghost use Rattle.turns.specs.Tick.{fallen, ticked};
@@ -49,15 +50,15 @@ fn signed(longword: u32) -> i32
 
 // Stores v as field f of the record of the job at position k.
 fn set_field(p: &mut [u32], k: usize, f: usize, v: u32)
-    requires { ⌜ (k < positions Jobs) × (f < width Jobs) ⌝ }
+    requires { ⌜ (heapBase ≤ length (now p)) × ((k < positions Jobs) × (f < width Jobs)) ⌝ }
     ensures { λ _. ⌜ now (p .exit) ≡ put (now (p .entry)) (slot Jobs k + f) v ⌝ }
 {
-    put(p, slot_of(Table::Jobs, k) + f, v);
+    tables::put_at(p, slot_of(Table::Jobs, k) + f, v);
 }
 
 // The job at m, or the one at position k where that is ready and has accumulated more.
 fn preferred(p: &[u32], m: usize, k: usize) -> usize
-    requires { ⌜ (k < positions Jobs) × (m ≤ positions Jobs) ⌝ }
+    requires { ⌜ (heapBase ≤ length (now p)) × ((k < positions Jobs) × (m ≤ positions Jobs)) ⌝ }
     ensures { λ r. ⌜ r ≡ preferred (now (p .entry)) m k ⌝ }
 {
     if !is_ready(p, k) {
@@ -74,6 +75,7 @@ fn preferred(p: &[u32], m: usize, k: usize) -> usize
 
 // The position of the job that the pick takes, the number of positions for nobody.
 pub fn chosen_job(p: &[u32]) -> usize
+    requires { ⌜ heapBase ≤ length (now p) ⌝ }
     ensures { λ r. ⌜ (r ≡ chosenJob (now (p .entry))) × (r ≤ positions Jobs) ⌝ }
 {
     let mut m = JOBS;
@@ -98,7 +100,7 @@ fn gained(accumulated: u32, priority: u32) -> u32
 
 // What position k has accumulated once the job at m was picked.
 fn accumulated_after(p: &[u32], m: usize, k: usize) -> u32
-    requires { ⌜ k < positions Jobs ⌝ }
+    requires { ⌜ (heapBase ≤ length (now p)) × (k < positions Jobs) ⌝ }
     ensures { λ r. ⌜ r ≡ accumulatedAfter (now (p .entry)) m k ⌝ }
 {
     if k == m {
@@ -113,6 +115,7 @@ fn accumulated_after(p: &[u32], m: usize, k: usize) -> u32
 
 // Every ready job but the one at m gains, and m's accumulated is 0.
 fn give_gains(p: &mut [u32], m: usize)
+    requires { ⌜ heapBase ≤ length (now p) ⌝ }
     ensures { λ _. ⌜ now (p .exit) ≡ setEach (now (p .entry)) accumulatedField (accumulatedAfter (now (p .entry)) m) (positions Jobs) ⌝ }
 {
     for k in 0..JOBS {
@@ -123,6 +126,7 @@ fn give_gains(p: &mut [u32], m: usize)
 
 // The pick.
 pub fn pick_turn(p: &mut [u32]) -> Picked
+    requires { ⌜ heapBase ≤ length (now p) ⌝ }
     ensures { λ r. ⌜ now (p .exit) ≡ picked (now (p .entry)) ⌝ }
     ensures { λ r. ⌜ r ≡ answer (now (p .entry)) ⌝ }
 {
@@ -157,6 +161,7 @@ fn fallen(timeout: u32) -> u32
 
 // The tick of a frame.
 pub fn tick_frame(p: &mut [u32])
+    requires { ⌜ heapBase ≤ length (now p) ⌝ }
     ensures { λ _. ⌜ now (p .exit) ≡ ticked (now (p .entry)) ⌝ }
 {
     for k in 0..JOBS {

@@ -4,16 +4,16 @@ use Rattle.areas.proofs.length_whole.Statement.{statement}
 use Rattle.areas.proofs.length_whole.Tie as tie
 use Rattle.areas.proofs.length_whole.Reads as reads
 use Rattle.areas.proofs.length_whole.Lts as lts
-use Rattle.words.proofs.word.Reads as word-reads
+use Rattle.tables.proofs.word_at.Reads as word-at-reads
 
--- src/lib.rt:16:9
-word-requires : tie.Need-word-requires
-word-requires c κs = search needs
+-- src/lib.rt:19:9
+word-at-requires : tie.Need-word-at-requires
+word-at-requires c κs = search needs
 
--- src/lib.rt:13:1
+-- src/lib.rt:15:1
 returns : tie.Need-returns
 unfolding length-whole
-returns c = rw (c .word .ensures)
+returns c = rw (c .word-at .ensures)
 
 pub length-whole-spec : {M : Type 1} → statement M
-length-whole-spec = tie.close (tie.spec word-requires returns)
+length-whole-spec = tie.close (tie.spec word-at-requires returns)

@@ -1,3 +1,4 @@
+use Rattle.sound.proofs.Room.{sound-tables}
 use Rattle.manager.specs.Turn.{tick-key, ticking}
 use borrow.Author.Tests.{not-true, not-false}
 use mathlib.Core.Path.{refl, sym, _∙_}
@@ -24,7 +25,7 @@ returns c = let s = sym (c .before .is-sound .ensures) ∙ not-true _ (c .if1 .t
 
 -- src/lib.rt:90:5
 tick-frame-requires : tie.Need-tick-frame-requires
-tick-frame-requires c κs = search needs
+tick-frame-requires c κs = sound-tables _ (sym (c .before .is-sound .ensures) ∙ not-false _ (c .if1 .left))
 
 -- src/lib.rt:84:1
 same-length-2 : tie.Need-same-length-2

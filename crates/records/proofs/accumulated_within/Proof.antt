@@ -4,13 +4,13 @@ use Rattle.records.proofs.accumulated_within.Statement.{statement}
 use Rattle.records.proofs.accumulated_within.Tie as tie
 use Rattle.records.proofs.accumulated_within.Reads as reads
 use Rattle.records.proofs.accumulated_within.Lts as lts
-use Rattle.picture.proofs.field_of.Reads as field-of-reads
+use Rattle.tables.proofs.field_of.Reads as field-of-reads
 
--- src/lib.rt:49:5
+-- src/lib.rt:54:5
 field-of-requires : tie.Need-field-of-requires
 field-of-requires c κs = search needs
 
--- src/lib.rt:45:1
+-- src/lib.rt:50:1
 returns : tie.Need-returns
 unfolding accumulated-within
 returns c = rw (c .field-of .ensures)

@@ -4,21 +4,16 @@ use Rattle.records.proofs.ends_in_one.Statement.{statement}
 use Rattle.records.proofs.ends_in_one.Tie as tie
 use Rattle.records.proofs.ends_in_one.Reads as reads
 use Rattle.records.proofs.ends_in_one.Lts as lts
-use Rattle.picture.proofs.field_of.Reads as field-of-reads
-use Rattle.picture.proofs.is_used.Reads as is-used-reads
+use Rattle.tables.proofs.field_of.Reads as field-of-reads
 
--- src/lib.rt:66:6
-is-used-requires : tie.Need-is-used-requires
-is-used-requires c κs = search needs
-
--- src/lib.rt:66:40
+-- src/lib.rt:71:5
 field-of-requires : tie.Need-field-of-requires
 field-of-requires c κs = search needs
 
--- src/lib.rt:62:1
+-- src/lib.rt:67:1
 returns : tie.Need-returns
 unfolding ends-in-one
-returns c = rw (c .field-of .ensures, c .before .is-used .ensures)
+returns c = rw (c .field-of .ensures, c .before .before .pre .1 .1)
 
 pub ends-in-one-spec : {M : Type 1} → statement M
-ends-in-one-spec = tie.close (tie.spec is-used-requires field-of-requires returns)
+ends-in-one-spec = tie.close (tie.spec field-of-requires returns)

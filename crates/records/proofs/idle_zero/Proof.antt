@@ -1,24 +1,30 @@
 use Rattle.records.specs.Rules.{idle-zero}
+use borrow.Author.Tests.{eq-eqb, ne-eqb}
 use borrow.Author.Needs.{needs}
 use Rattle.records.proofs.idle_zero.Statement.{statement}
 use Rattle.records.proofs.idle_zero.Tie as tie
 use Rattle.records.proofs.idle_zero.Reads as reads
 use Rattle.records.proofs.idle_zero.Lts as lts
-use Rattle.picture.proofs.field_of.Reads as field-of-reads
-use Rattle.picture.proofs.is_ready.Reads as is-ready-reads
+use Rattle.tables.proofs.field_of.Reads as field-of-reads
+use Rattle.tables.proofs.is_ready.Reads as is-ready-reads
 
--- src/lib.rt:219:6
+-- src/lib.rt:215:8
 field-of-requires : tie.Need-field-of-requires
 field-of-requires c κs = search needs
 
--- src/lib.rt:219:64
+-- src/lib.rt:216:9
+returns : tie.Need-returns
+unfolding idle-zero
+returns c = rw (eq-eqb _ _ (rw (c .before .field-of .ensures) at (c .if1 .taken)))
+
+-- src/lib.rt:218:5
 is-ready-requires : tie.Need-is-ready-requires
 is-ready-requires c κs = search needs
 
--- src/lib.rt:215:1
-returns : tie.Need-returns
+-- src/lib.rt:211:1
+returns-2 : tie.Need-returns-2
 unfolding idle-zero
-returns c = rw (c .is-ready .ensures, c .before .field-of .ensures)
+returns-2 c = rw (c .is-ready .ensures, ne-eqb _ _ (rw (c .before .before .field-of .ensures) at (c .before .if1 .left)))
 
 pub idle-zero-spec : {M : Type 1} → statement M
-idle-zero-spec = tie.close (tie.spec field-of-requires is-ready-requires returns)
+idle-zero-spec = tie.close (tie.spec field-of-requires returns is-ready-requires returns-2)

@@ -1,28 +1,25 @@
 use Rattle.records.specs.Rules.{positioned}
+use Rattle.tables.proofs.Within.{shared}
+use native.Mathlib.Omega.{arith}
 use borrow.Author.Needs.{needs}
 use Rattle.records.proofs.is_positioned.Statement.{statement}
 use Rattle.records.proofs.is_positioned.Tie as tie
 use Rattle.records.proofs.is_positioned.Reads as reads
 use Rattle.records.proofs.is_positioned.Lts as lts
-use Rattle.picture.proofs.field_of.Reads as field-of-reads
-use Rattle.picture.proofs.is_used.Reads as is-used-reads
+use Rattle.tables.proofs.field_of.Reads as field-of-reads
 
--- src/lib.rt:101:6
-is-used-requires : tie.Need-is-used-requires
-is-used-requires c κs = search needs
-
--- src/lib.rt:101:27
+-- src/lib.rt:105:6
 field-of-requires : tie.Need-field-of-requires
-field-of-requires c κs = search needs
+field-of-requires c κs = let s = c .before in (s .pre .0, (s .pre .1 .0, shared (s .args .t) _ (omega arith)))
 
--- src/lib.rt:101:26
+-- src/lib.rt:105:5
 cast-result : tie.Need-cast-result
 cast-result c = search needs
 
--- src/lib.rt:97:1
+-- src/lib.rt:101:1
 returns : tie.Need-returns
 unfolding positioned
-returns c = rw (c .field-of .ensures, c .before .is-used .ensures)
+returns c = rw (c .field-of .ensures, c .before .before .pre .1 .1)
 
 pub is-positioned-spec : {M : Type 1} → statement M
-is-positioned-spec = tie.close (tie.spec is-used-requires field-of-requires cast-result returns)
+is-positioned-spec = tie.close (tie.spec field-of-requires cast-result returns)

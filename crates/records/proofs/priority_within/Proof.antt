@@ -4,13 +4,13 @@ use Rattle.records.proofs.priority_within.Statement.{statement}
 use Rattle.records.proofs.priority_within.Tie as tie
 use Rattle.records.proofs.priority_within.Reads as reads
 use Rattle.records.proofs.priority_within.Lts as lts
-use Rattle.picture.proofs.field_of.Reads as field-of-reads
+use Rattle.tables.proofs.field_of.Reads as field-of-reads
 
--- src/lib.rt:41:5
+-- src/lib.rt:46:5
 field-of-requires : tie.Need-field-of-requires
 field-of-requires c κs = search needs
 
--- src/lib.rt:37:1
+-- src/lib.rt:42:1
 returns : tie.Need-returns
 unfolding priority-within
 returns c = rw (c .field-of .ensures)

@@ -25,7 +25,7 @@ loop-holds c = (omega arith, refl)
 
 -- src/lib.rt:137:13
 tags-differ-requires : tie.Need-tags-differ-requires Inv-loop μ-loop
-tags-differ-requires c κs = let s = c .before .before .before in (s .pre, omega (arith, s .pre))
+tags-differ-requires c κs = let s = c .before .before .before in (s .pre .0, (s .pre .1, omega (arith, s .pre .1)))
 
 -- src/lib.rt:138:13
 returns : tie.Need-returns Inv-loop μ-loop

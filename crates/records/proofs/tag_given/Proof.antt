@@ -1,35 +1,30 @@
 use Rattle.records.specs.Rules.{tag-given}
+use Rattle.tables.proofs.Within.{last-before}
 use borrow.Author.Needs.{needs}
 use Rattle.records.proofs.tag_given.Statement.{statement}
 use Rattle.records.proofs.tag_given.Tie as tie
 use Rattle.records.proofs.tag_given.Reads as reads
 use Rattle.records.proofs.tag_given.Lts as lts
-use Rattle.picture.proofs.is_used.Reads as is-used-reads
 use Rattle.picture.proofs.last_of.Reads as last-of-reads
 use Rattle.records.proofs.tag_at.Reads as tag-at-reads
-use Rattle.words.proofs.word.Reads as word-reads
+use Rattle.tables.proofs.word_at.Reads as word-at-reads
 
--- src/lib.rt:199:6
-is-used-requires : tie.Need-is-used-requires
-is-used-requires c κs = search needs
-
--- src/lib.rt:199:26
+-- src/lib.rt:193:5
 tag-at-requires : tie.Need-tag-at-requires
 tag-at-requires c κs = search needs
 
--- src/lib.rt:199:60
+-- src/lib.rt:193:43
 last-of-requires : tie.Need-last-of-requires
 last-of-requires c κs = search needs
 
--- src/lib.rt:199:45
-word-requires : tie.Need-word-requires
-word-requires c κs = search needs
+-- src/lib.rt:193:24
+word-at-requires : tie.Need-word-at-requires
+word-at-requires c κs = let s = c .before .before .before in rw (c .last-of .ensures) (last-before (s .args .t) _ (s .pre .0))
 
--- src/lib.rt:195:1
+-- src/lib.rt:189:1
 returns : tie.Need-returns
 unfolding tag-given
-returns c = rw (c .word .ensures, c .before .last-of .ensures, c .before .before .tag-at .ensures, c .before .before .before .is-used .ensures)
+returns c = rw (c .word-at .ensures, c .before .last-of .ensures, c .before .before .tag-at .ensures, c .before .before .before .before .pre .1 .1)
 
 pub tag-given-spec : {M : Type 1} → statement M
-tag-given-spec =
-    tie.close (tie.spec is-used-requires tag-at-requires last-of-requires word-requires returns)
+tag-given-spec = tie.close (tie.spec tag-at-requires last-of-requires word-at-requires returns)

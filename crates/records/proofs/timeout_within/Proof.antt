@@ -4,13 +4,13 @@ use Rattle.records.proofs.timeout_within.Statement.{statement}
 use Rattle.records.proofs.timeout_within.Tie as tie
 use Rattle.records.proofs.timeout_within.Reads as reads
 use Rattle.records.proofs.timeout_within.Lts as lts
-use Rattle.picture.proofs.field_of.Reads as field-of-reads
+use Rattle.tables.proofs.field_of.Reads as field-of-reads
 
--- src/lib.rt:57:9
+-- src/lib.rt:62:9
 field-of-requires : tie.Need-field-of-requires
 field-of-requires c κs = search needs
 
--- src/lib.rt:53:1
+-- src/lib.rt:58:1
 returns : tie.Need-returns
 unfolding timeout-within
 returns c = rw (c .field-of .ensures)

@@ -1,34 +1,46 @@
 use Rattle.records.specs.Rules.{waits-well}
+use borrow.Author.Tests.{eq-eqb, ne-eqb}
 use borrow.Author.Needs.{needs}
 use Rattle.records.proofs.waits_well.Statement.{statement}
 use Rattle.records.proofs.waits_well.Tie as tie
 use Rattle.records.proofs.waits_well.Reads as reads
 use Rattle.records.proofs.waits_well.Lts as lts
-use Rattle.picture.proofs.field_of.Reads as field-of-reads
-use Rattle.picture.proofs.is_live.Reads as is-live-reads
+use Rattle.tables.proofs.field_of.Reads as field-of-reads
+use Rattle.tables.proofs.is_live.Reads as is-live-reads
 
--- src/lib.rt:207:9
+-- src/lib.rt:201:9
 field-of-requires : tie.Need-field-of-requires
 field-of-requires c κs = search needs
 
--- src/lib.rt:209:12
+-- src/lib.rt:203:9
+returns : tie.Need-returns
+unfolding waits-well
+returns c = rw (eq-eqb _ _ (rw (c .before .field-of .ensures) at (c .if1 .taken)))
+
+-- src/lib.rt:205:5
 is-live-requires : tie.Need-is-live-requires
 is-live-requires c κs = search needs
 
--- src/lib.rt:210:27
+-- src/lib.rt:206:23
 field-of-requires-2 : tie.Need-field-of-requires-2
 field-of-requires-2 c κs = search needs
 
--- src/lib.rt:211:20
+-- src/lib.rt:207:16
 field-of-requires-3 : tie.Need-field-of-requires-3
 field-of-requires-3 c κs = search needs
 
--- src/lib.rt:203:1
-returns : tie.Need-returns
+-- src/lib.rt:197:1
+returns-2 : tie.Need-returns-2
 unfolding waits-well
-returns c = rw (c .field-of3 .ensures, c .before .field-of2 .ensures, c .before .before .is-live .ensures, c .before .before .before .field-of .ensures)
+returns-2 c = let d = c .before .before .before in rw (c .field-of3 .ensures, c .before .field-of2 .ensures, c .before .before .is-live .ensures, d .before .field-of .ensures, ne-eqb _ _ (rw (d .before .field-of .ensures) at (d .if1 .left)))
 
 pub waits-well-spec : {M : Type 1} → statement M
 waits-well-spec =
     tie.close
-    (tie.spec field-of-requires is-live-requires field-of-requires-2 field-of-requires-3 returns)
+    (tie.spec
+    field-of-requires
+    returns
+    is-live-requires
+    field-of-requires-2
+    field-of-requires-3
+    returns-2)

@@ -4,21 +4,16 @@ use Rattle.records.proofs.zero_exists.Statement.{statement}
 use Rattle.records.proofs.zero_exists.Tie as tie
 use Rattle.records.proofs.zero_exists.Reads as reads
 use Rattle.records.proofs.zero_exists.Lts as lts
-use Rattle.picture.proofs.field_of.Reads as field-of-reads
-use Rattle.picture.proofs.is_used.Reads as is-used-reads
+use Rattle.tables.proofs.field_of.Reads as field-of-reads
 
--- src/lib.rt:110:12
-is-used-requires : tie.Need-is-used-requires
-is-used-requires c κs = search needs
-
--- src/lib.rt:110:42
+-- src/lib.rt:113:17
 field-of-requires : tie.Need-field-of-requires
 field-of-requires c κs = search needs
 
--- src/lib.rt:105:1
+-- src/lib.rt:109:1
 returns : tie.Need-returns
 unfolding zero-exists
-returns c = rw (c .field-of .ensures, c .before .is-used .ensures)
+returns c = rw (c .field-of .ensures, c .before .before .pre .1 .1)
 
 pub zero-exists-spec : {M : Type 1} → statement M
-zero-exists-spec = tie.close (tie.spec is-used-requires field-of-requires returns)
+zero-exists-spec = tie.close (tie.spec field-of-requires returns)

@@ -4,13 +4,13 @@ use Rattle.records.proofs.zero_unowned.Statement.{statement}
 use Rattle.records.proofs.zero_unowned.Tie as tie
 use Rattle.records.proofs.zero_unowned.Reads as reads
 use Rattle.records.proofs.zero_unowned.Lts as lts
-use Rattle.picture.proofs.field_of.Reads as field-of-reads
+use Rattle.tables.proofs.field_of.Reads as field-of-reads
 
--- src/lib.rt:191:17
+-- src/lib.rt:185:17
 field-of-requires : tie.Need-field-of-requires
 field-of-requires c κs = search needs
 
--- src/lib.rt:187:1
+-- src/lib.rt:181:1
 returns : tie.Need-returns
 unfolding zero-unowned
 returns c = rw (c .field-of .ensures)

@@ -4,19 +4,19 @@ use Rattle.turns.proofs.set_field.Tie as tie
 use Rattle.turns.proofs.set_field.Reads as reads
 use Rattle.turns.proofs.set_field.Lts as lts
 use Rattle.picture.proofs.slot_of.Reads as slot-of-reads
-use Rattle.words.proofs.put.Reads as put-reads
+use Rattle.tables.proofs.put_at.Reads as put-at-reads
 
 -- src/lib.rt:46:12
 slot-of-requires : tie.Need-slot-of-requires
 slot-of-requires c κs = search needs
 
 -- src/lib.rt:46:12
-add-put : tie.Need-add-put
-add-put c = search needs
+add-put-at : tie.Need-add-put-at
+add-put-at c = search needs
 
 -- src/lib.rt:46:5
-put-requires : tie.Need-put-requires
-put-requires c κs = search needs
+put-at-requires : tie.Need-put-at-requires
+put-at-requires c κs = search needs
 
 -- src/lib.rt:42:1
 same-length : tie.Need-same-length
@@ -24,7 +24,7 @@ same-length c = search needs
 
 -- src/lib.rt:42:1
 returns : tie.Need-returns
-returns c = rw (c .before .before .put .ensures, c .before .before .before .slot-of .ensures .0)
+returns c = rw (c .before .before .put-at .ensures, c .before .before .before .slot-of .ensures .0)
 
 pub set-field-spec : {M : Type 1} → statement M
-set-field-spec = tie.close (tie.spec slot-of-requires add-put put-requires same-length returns)
+set-field-spec = tie.close (tie.spec slot-of-requires add-put-at put-at-requires same-length returns)

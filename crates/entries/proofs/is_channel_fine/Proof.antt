@@ -1,0 +1,34 @@
+use Rattle.entries.specs.Entries.{live-fine}
+use borrow.Author.Tests.{not-true, not-false}
+use mathlib.Core.Path.{sym, _∙_}
+use borrow.Author.Needs.{needs}
+use Rattle.entries.proofs.is_channel_fine.Statement.{statement}
+use Rattle.entries.proofs.is_channel_fine.Tie as tie
+use Rattle.entries.proofs.is_channel_fine.Reads as reads
+use Rattle.entries.proofs.is_channel_fine.Lts as lts
+use Rattle.entries.proofs.is_entry_fine.Reads as is-entry-fine-reads
+use Rattle.records.proofs.ends_in_one.Reads as ends-in-one-reads
+
+-- src/lib.rt:75:9
+is-entry-fine-requires : tie.Need-is-entry-fine-requires
+is-entry-fine-requires c κs = search needs
+
+-- src/lib.rt:76:9
+returns : tie.Need-returns
+unfolding live-fine
+returns c = rw (sym (c .before .is-entry-fine .ensures) ∙ not-true _ (c .if1 .taken))
+
+-- src/lib.rt:78:5
+ends-in-one-requires : tie.Need-ends-in-one-requires
+ends-in-one-requires c κs = search needs
+
+-- src/lib.rt:71:1
+returns-2 : tie.Need-returns-2
+unfolding live-fine
+returns-2 c =
+    let z = c .before in
+    rw (sym (z .before .is-entry-fine .ensures) ∙ not-false _ (z .if1 .left), c .ends-in-one .ensures)
+
+pub is-channel-fine-spec : {M : Type 1} → statement M
+is-channel-fine-spec =
+    tie.close (tie.spec is-entry-fine-requires returns ends-in-one-requires returns-2)

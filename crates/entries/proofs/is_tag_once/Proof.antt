@@ -1,0 +1,21 @@
+use borrow.Author.Needs.{needs}
+use Rattle.entries.proofs.is_tag_once.Statement.{statement}
+use Rattle.entries.proofs.is_tag_once.Tie as tie
+use Rattle.entries.proofs.is_tag_once.Reads as reads
+use Rattle.entries.proofs.is_tag_once.Lts as lts
+use Rattle.records.proofs.tag_alone.Reads as tag-alone-reads
+
+-- src/lib.rt:111:9
+tag-alone-requires : tie.Need-tag-alone-requires
+tag-alone-requires c κs = search needs
+
+-- src/lib.rt:111:9
+returns : tie.Need-returns
+returns c = rw (c .before .if1 .taken, c .tag-alone .ensures)
+
+-- src/lib.rt:106:1
+returns-2 : tie.Need-returns-2
+returns-2 c = search needs
+
+pub is-tag-once-spec : {M : Type 1} → statement M
+is-tag-once-spec = tie.close (tie.spec tag-alone-requires returns returns-2)

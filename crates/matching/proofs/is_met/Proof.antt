@@ -1,0 +1,80 @@
+use Rattle.matching.proofs.Meeting.{met-at, met-none}
+use Rattle.matching.specs.Met.{meets}
+use Rattle.words.specs.Each.{every}
+use Rattle.words.proofs.Each.{every-next}
+use Rattle.picture.specs.Layout.{positions}
+use mathlib.Core.Bool.{true, not}
+use mathlib.Core.Path.{_≡_, refl, sym, ap, _∙_}
+use Prim.Native.Nat.{ℕ, _-_, _≤_}
+use borrow.Author.Needs.{needs}
+use native.Mathlib.Omega.{arith}
+use Rattle.matching.proofs.is_met.Statement.{statement}
+use Rattle.matching.proofs.is_met.Tie as tie
+use Rattle.matching.proofs.is_met.Reads as reads
+use Rattle.matching.proofs.is_met.Lts as lts
+use Rattle.matching.proofs.is_meeting.Reads as is-meeting-reads
+use Rattle.picture.proofs.positions_of.Reads as positions-of-reads
+
+abbrev Inv-loop : tie.InvT-loop
+Inv-loop p t i n k₀ k = (n ≡ positions t) × ((k ≤ n) × (every (λ (j : ℕ). not (meets p t j i)) k ≡ true))
+
+abbrev μ-loop : tie.MeasureT-loop
+μ-loop p t i n k₀ k = n - k
+
+-- src/lib.rt:48:9
+positions-of-requires : tie.Need-positions-of-requires Inv-loop μ-loop
+positions-of-requires c κs = search needs
+
+-- src/lib.rt:50:5
+loop-holds : tie.Need-loop-holds Inv-loop μ-loop
+loop-holds c = (c .positions-of .ensures .0, (omega arith, refl))
+
+-- src/lib.rt:51:12
+is-meeting-requires : tie.Need-is-meeting-requires Inv-loop μ-loop
+is-meeting-requires c κs = let l = c .before in let s = l .before .before .before in (s .pre .0, (rw (l .loop .inv .0) at (c .loop-test .taken), s .pre .1))
+
+-- src/lib.rt:52:13
+returns : tie.Need-returns Inv-loop μ-loop
+returns c =
+    let l = c .before .before in
+    let a = l .before .before .before .before .args in
+    sym (met-at _ _ _ (l .before .loop .k) (rw (l .before .loop .inv .0) at (l .loop-test .taken)) (sym (c .before .is-meeting .ensures) ∙ c .if1 .taken))
+
+-- src/lib.rt:54:9
+add-k : tie.Need-add-k Inv-loop μ-loop
+add-k c = search needs
+
+-- src/lib.rt:50:5
+loop-less : tie.Need-loop-less Inv-loop μ-loop
+loop-less c = search needs
+
+-- src/lib.rt:50:5
+loop-again : tie.Need-loop-again Inv-loop μ-loop
+loop-again c =
+    let l = c .before .before in
+    let a = l .before .before .before .before .args in
+    let i = l .before .loop .inv in
+    (i .0, (omega arith, every-next (λ (j : ℕ). not (meets (a .p .now) (a .t) j (a .i))) (l .before .loop .k) (i .1 .1) (ap not (sym (c .before .is-meeting .ensures) ∙ c .if1 .left))))
+
+-- src/lib.rt:44:1
+returns-2 : tie.Need-returns-2 Inv-loop μ-loop
+returns-2 c =
+    let d = c .before .loop in
+    let a = c .before .before .before .before .args in
+    let e : d .k ≡ positions (a .t) = (let z : d .k ≡ c .before .before .positions-of .result = omega arith in z) ∙ d .inv .0 in
+    sym (met-none _ _ _ (ap (every (λ (j : ℕ). not (meets (a .p .now) (a .t) j (a .i)))) (sym e) ∙ d .inv .1 .1))
+
+pub is-met-spec : {M : Type 1} → statement M
+is-met-spec =
+    tie.close
+    (tie.spec
+    Inv-loop
+    μ-loop
+    positions-of-requires
+    loop-holds
+    is-meeting-requires
+    returns
+    add-k
+    loop-less
+    loop-again
+    returns-2)

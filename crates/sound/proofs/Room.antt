@@ -1,0 +1,47 @@
+-- A picture that is fine as a whole has its tables, and both areas lie within. A sound one has its tables too.
+use Prim.Native.Nat.{ℕ, _+_, _%_, _≤_}
+use mathlib.Core.Path.{_≡_}
+use mathlib.Core.Bool.{true, _&&_}
+use mathlib.Core.List.{List}
+use native.Mathlib.Omega.{arith}
+use lib.Dec.{leb, eqb}
+use lib.ListN.{length}
+use borrow.Author.Tests.{eqb-true, leb-true}
+use Rattle.words.specs.Words.{word}
+use Rattle.words.proofs.Tests.{both}
+use Rattle.picture.specs.Layout.{upto, least-size, heap-base, heap-word, size-word}
+use Rattle.picture.specs.declared.Area.{Area}
+use Rattle.picture.specs.declared.Area.the-variants.{Heap, Transient}
+use Rattle.sound.specs.Whole.{size-right, zero-right, heap-right}
+use Rattle.sound.specs.Sound.{sound}
+use Rattle.sound.specs.Test.{whole-fine}
+use Rattle.sound.proofs.Holds.{sound-holds}
+
+size-known : (p : List ℕ) → size-right p ≡ true → (word p size-word ≡ length p) × (least-size ≤ length p)
+unfolding size-right
+size-known p h =
+    let a = both (eqb (word p size-word) (length p)) _ h in
+    (eqb-true _ _ (a .0), leb-true least-size (length p) (both (leb least-size (length p)) _ (a .1) .0))
+
+pub sound-tables : (p : List ℕ) → sound p ≡ true → heap-base ≤ length p
+sound-tables p s = let l = size-known p (sound-holds p s 0) .1 in omega arith
+
+module _ (p : List ℕ) (h : whole-fine p ≡ true) where
+  size-is : (word p size-word ≡ length p) × (least-size ≤ length p)
+  unfolding whole-fine
+  size-is = size-known p (both (size-right p) _ h .0)
+
+  heap-is : heap-base + word p heap-word + 4 ≤ word p size-word
+  unfolding whole-fine heap-right
+  heap-is =
+      let b = both (zero-right p) _ (both (size-right p) _ h .1) in
+      let c = both (heap-right p) _ (b .1) in
+      let d = both (eqb (word p heap-word % 4) 0) _ (c .0) in
+      leb-true (heap-base + word p heap-word + 4) (word p size-word) (both (leb 4 (word p heap-word)) _ (d .1) .1)
+
+  pub tables-within : heap-base ≤ length p
+  tables-within = let s = size-is .1 in omega arith
+
+  pub area-within : (a : Area) → upto p a ≤ length p
+  area-within Heap = let s = size-is .0 in let w = heap-is in omega arith
+  area-within Transient = let s = size-is .0 in omega arith

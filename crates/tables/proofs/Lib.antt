@@ -1,0 +1,2 @@
+-- Laws of the longwords before the heap.
+pub mod Within

@@ -1,0 +1,19 @@
+-- Fields that both tables have, and the longwords of the masks and of the last tags, lie before the heap.
+use Prim.Native.Nat.{ℕ, _<_, _≤_}
+use native.Mathlib.Omega.{arith}
+use Rattle.picture.specs.Layout.{width, mask-word, last-word, heap-base}
+use Rattle.picture.specs.declared.Table.{Table}
+use Rattle.picture.specs.declared.Table.the-variants.{Jobs, Channels}
+
+-- the first four fields are those of either table
+pub shared : (t : Table) (f : ℕ) → f < 4 → f < width t
+shared Jobs f l = omega arith
+shared Channels f l = omega arith
+
+pub mask-before : (t : Table) (n : ℕ) → heap-base ≤ n → mask-word t < n
+mask-before Jobs n l = omega arith
+mask-before Channels n l = omega arith
+
+pub last-before : (t : Table) (n : ℕ) → heap-base ≤ n → last-word t < n
+last-before Jobs n l = omega arith
+last-before Channels n l = omega arith

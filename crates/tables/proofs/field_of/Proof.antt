@@ -1,0 +1,26 @@
+use borrow.Author.Needs.{needs}
+use Rattle.tables.proofs.field_of.Statement.{statement}
+use Rattle.tables.proofs.field_of.Tie as tie
+use Rattle.tables.proofs.field_of.Reads as reads
+use Rattle.tables.proofs.field_of.Lts as lts
+use Rattle.picture.proofs.slot_of.Reads as slot-of-reads
+use Rattle.tables.proofs.word_at.Reads as word-at-reads
+
+-- src/lib.rt:24:16
+slot-of-requires : tie.Need-slot-of-requires
+slot-of-requires c κs = search needs
+
+-- src/lib.rt:24:16
+add-word-at : tie.Need-add-word-at
+add-word-at c = search needs
+
+-- src/lib.rt:24:5
+word-at-requires : tie.Need-word-at-requires
+word-at-requires c κs = search needs
+
+-- src/lib.rt:20:1
+returns : tie.Need-returns
+returns c = rw (c .word-at .ensures, c .before .slot-of .ensures .0)
+
+pub field-of-spec : {M : Type 1} → statement M
+field-of-spec = tie.close (tie.spec slot-of-requires add-word-at word-at-requires returns)

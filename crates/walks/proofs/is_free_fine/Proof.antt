@@ -1,0 +1,34 @@
+use Rattle.walks.specs.Walks.{free-fine}
+use borrow.Author.Tests.{not-true, not-false}
+use mathlib.Core.Path.{sym, _∙_}
+use borrow.Author.Needs.{needs}
+use Rattle.walks.proofs.is_free_fine.Statement.{statement}
+use Rattle.walks.proofs.is_free_fine.Tie as tie
+use Rattle.walks.proofs.is_free_fine.Reads as reads
+use Rattle.walks.proofs.is_free_fine.Lts as lts
+use Rattle.areas.proofs.free_blank.Reads as free-blank-reads
+use Rattle.areas.proofs.is_untouched.Reads as is-untouched-reads
+
+-- src/lib.rt:17:9
+free-blank-requires : tie.Need-free-blank-requires
+free-blank-requires c κs = search needs
+
+-- src/lib.rt:18:9
+returns : tie.Need-returns
+unfolding free-fine
+returns c = rw (sym (c .before .free-blank .ensures) ∙ not-true _ (c .if1 .taken))
+
+-- src/lib.rt:20:5
+is-untouched-requires : tie.Need-is-untouched-requires
+is-untouched-requires c κs = search needs
+
+-- src/lib.rt:13:1
+returns-2 : tie.Need-returns-2
+unfolding free-fine
+returns-2 c =
+    let z = c .before in
+    rw (sym (z .before .free-blank .ensures) ∙ not-false _ (z .if1 .left), c .is-untouched .ensures)
+
+pub is-free-fine-spec : {M : Type 1} → statement M
+is-free-fine-spec =
+    tie.close (tie.spec free-blank-requires returns is-untouched-requires returns-2)
