@@ -3,6 +3,10 @@ use crate::reading::are_digits;
 use crate::reading::number_at;
 use crate::reading::read_bytes;
 use crate::reading::read_words;
+ghost use mathlib.Core.Path.{_≡_};
+ghost use mathlib.Core.Bool.{true};
+ghost use lib.ListN.{length};
+ghost use Rattle.lines.specs.Digits.{digits};
 ghost use Rattle.lines.specs.Frames.{frame, trapped, Told};
 
 // The most characters that a line may have.
@@ -11,8 +15,9 @@ const LONGEST: usize = 512;
 // A trap's number and its eight registers, in digits.
 const TRAP: usize = 66;
 
-// Reads a trap by its number: its registers, and the name's bytes of trap 2.
+// Reads a trap by its number from a line of digits: its registers, and the name's bytes of trap 2.
 fn read_trap(trap: u32, line: &[u8], registers: &mut [u32], name: &mut [u8]) -> Line
+    requires { ⌜ digits (now line) 0 (length (now line)) ≡ true ⌝ }
     ensures { λ r. ⌜ Told (trapped trap (now (line .entry))) r (now (registers .entry)) (now (name .entry)) (now (registers .exit)) (now (name .exit)) ⌝ }
 {
     if line.len() < TRAP {

@@ -1,11 +1,13 @@
-// Hexadecimal in lent texts: digits, numbers and words, read and written.
+// Hexadecimal in lent texts: digits, numbers and words, read and written; and where the lines of a text end.
+mod feeds;
 mod frames;
 mod reading;
 mod writing;
 
+pub use feeds::keep;
+pub use feeds::line_end;
 pub use frames::read_line;
 pub use reading::are_digits;
-pub use reading::digit_of;
 pub use reading::read_bytes;
 pub use reading::read_number;
 pub use reading::read_words;

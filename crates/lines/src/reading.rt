@@ -1,19 +1,10 @@
 use crate::Read;
 ghost use mathlib.Core.Path.{_≡_};
-ghost use Prim.Native.Nat.{_+_, _*_, _^_, _≤_, _<_};
-ghost use lib.ListN.{getD, length, set};
+ghost use mathlib.Core.Bool.{true};
+ghost use Prim.Native.Nat.{_+_, _-_, _*_, _^_, _≤_, _<_};
+ghost use lib.ListN.{length, set};
 ghost use lib.Seq.{sets};
 ghost use Rattle.lines.specs.Digits.{digit, digits, number, numbers, read, told, worth};
-
-// The character at a place, 0 past the end.
-fn character_at(text: &[u8], place: usize) -> u8
-    ensures { λ r. ⌜ r ≡ getD (now (text .entry)) place 0 ⌝ }
-{
-    if place < text.len() {
-        return text[place];
-    }
-    0
-}
 
 // A character as a number.
 fn wide(character: u8) -> u32
@@ -22,78 +13,90 @@ fn wide(character: u8) -> u32
     character as u32
 }
 
-// The value of a digit of either case, or nothing for any other character.
-pub fn digit_of(character: u8) -> Read
-    ensures { λ r. ⌜ r ≡ digit character ⌝ }
-{
-    let c = wide(character);
-    if c < 48 {
-        return Read::Nothing;
-    }
-    if c < 58 {
-        return Read::Number(c - 48);
-    }
-    if c < 65 {
-        return Read::Nothing;
-    }
-    if c < 71 {
-        return Read::Number(c - 55);
-    }
-    if c < 97 {
-        return Read::Nothing;
-    }
-    if c < 103 {
-        return Read::Number(c - 87);
-    }
-    Read::Nothing
-}
-
-// The character is a digit.
+// The character is a digit: 0 to 9, A to F, a to f.
 fn is_digit(character: u8) -> bool
     ensures { λ r. ⌜ r ≡ told (digit character) ⌝ }
 {
-    if let Read::Number(_) = digit_of(character) {
-        true
-    } else {
-        false
-    }
+    ((48 <= character) & (character < 58))
+        | (((65 <= character) & (character < 71)) | ((97 <= character) & (character < 103)))
 }
 
-// The value of a digit, 0 for any other character.
+// The value of a digit: its last four bits, and 9 more for a letter.
 fn worth_of(character: u8) -> u32
-    ensures { λ r. ⌜ r ≡ worth (digit character) ⌝ }
+    requires { ⌜ told (digit character) ≡ true ⌝ }
+    ensures { λ r. ⌜ (r ≡ worth (digit character)) × (r < 16) ⌝ }
 {
-    let Read::Number(value) = digit_of(character) else {
-        return 0;
-    };
-    value
+    wide(character % 16 + 9 * (character / 64))
+}
+
+// The eight characters from a place on are digits.
+fn are_eight(text: &[u8], i: usize) -> bool
+    requires { ⌜ i + 8 ≤ length (now text) ⌝ }
+    ensures { λ r. ⌜ r ≡ digits (now (text .entry)) i 8 ⌝ }
+{
+    (is_digit(text[i]) & is_digit(text[i + 1]) & is_digit(text[i + 2]) & is_digit(text[i + 3]))
+        & (is_digit(text[i + 4])
+            & is_digit(text[i + 5])
+            & is_digit(text[i + 6])
+            & is_digit(text[i + 7]))
+}
+
+// How many characters from a place on are digits, eight at a time: those behind them decide whether all are.
+fn digits_by_eight(text: &[u8], place: usize, count: usize) -> usize
+    requires { ⌜ place + count ≤ length (now text) ⌝ }
+    ensures { λ r. ⌜ (r ≤ count) × (digits (now (text .entry)) place count ≡ digits (now (text .entry)) (place + r) (count - r)) ⌝ }
+{
+    let mut k = 0;
+    while 8 <= count - k {
+        if !are_eight(text, place + k) {
+            return k;
+        }
+        k += 8;
+    }
+    k
+}
+
+// The `count` characters from a place on are digits, one at a time.
+fn digits_by_one(text: &[u8], place: usize, count: usize) -> bool
+    requires { ⌜ place + count ≤ length (now text) ⌝ }
+    ensures { λ r. ⌜ r ≡ digits (now (text .entry)) place count ⌝ }
+{
+    let mut k = 0;
+    while k < count {
+        if !is_digit(text[place + k]) {
+            return false;
+        }
+        k += 1;
+    }
+    true
 }
 
 // The `count` characters from a place on are digits.
 pub fn are_digits(text: &[u8], place: usize, count: usize) -> bool
     ensures { λ r. ⌜ r ≡ digits (now (text .entry)) place count ⌝ }
 {
-    let mut i = place;
-    let mut k = 0;
-    while k < count {
-        if !is_digit(character_at(text, i)) {
-            return false;
-        }
-        i += 1;
-        k += 1;
+    if count == 0 {
+        return true;
     }
-    true
+    if text.len() < count {
+        return false;
+    }
+    if text.len() - count < place {
+        return false;
+    }
+    let passed = digits_by_eight(text, place, count);
+    digits_by_one(text, place + passed, count - passed)
 }
 
 // The number that `count` digits from a place on say.
 pub fn number_at(text: &[u8], place: usize, count: usize) -> u32
-    requires { ⌜ (count ≤ 8) × (place + count < 2 ^ 64) ⌝ }
+    requires { ⌜ (count ≤ 8) × (digits (now text) place count ≡ true) ⌝ }
     ensures { λ r. ⌜ (r ≡ number (now (text .entry)) place count) × (r < 16 ^ count) ⌝ }
 {
     let mut value: u32 = 0;
     let mut k = 0;
     while k < count {
-        value = value * 16 + worth_of(character_at(text, place + k));
+        value = value * 16 + worth_of(text[place + k]);
         k += 1;
     }
     value
@@ -130,9 +133,9 @@ fn put_byte(bytes: &mut [u8], index: usize, value: u8)
     }
 }
 
-// The words, with the first `count` of them those that stand in the text from a place on.
+// The words, with the first `count` of them those that stand in the text from a place on, in digits.
 pub fn read_words(text: &[u8], place: usize, count: usize, words: &mut [u32])
-    requires { ⌜ place + 8 * count ≤ length (now text) ⌝ }
+    requires { ⌜ digits (now text) place (8 * count) ≡ true ⌝ }
     ensures { λ _. ⌜ now (words .exit) ≡ sets (now (words .entry)) 0 (numbers (now (text .entry)) place 8 count) ⌝ }
 {
     let mut i = place;
@@ -144,9 +147,9 @@ pub fn read_words(text: &[u8], place: usize, count: usize, words: &mut [u32])
     }
 }
 
-// The bytes, with the first `count` of them those that stand in the text from a place on.
+// The bytes, with the first `count` of them those that stand in the text from a place on, in digits.
 pub fn read_bytes(text: &[u8], place: usize, count: usize, bytes: &mut [u8])
-    requires { ⌜ place + 2 * count ≤ length (now text) ⌝ }
+    requires { ⌜ digits (now text) place (2 * count) ≡ true ⌝ }
     ensures { λ _. ⌜ now (bytes .exit) ≡ sets (now (bytes .entry)) 0 (numbers (now (text .entry)) place 2 count) ⌝ }
 {
     let mut i = place;

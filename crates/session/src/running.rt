@@ -1,6 +1,7 @@
 use crate::Progress;
 use libc::STDIN_FILENO;
 use lines::Line;
+ghost use mathlib.Core.Path.{_≡_};
 ghost use Prim.Native.Nat.{_≤_};
 ghost use lib.ListN.{length};
 
@@ -58,9 +59,9 @@ fn answer_line(
     }
 }
 
-// Takes a character of the input: a line feed has the line answered, any other goes into it.
+// Answers the line that a part of a chunk ends, straight from the chunk where nothing of it is kept.
 fn take(
-    character: u8,
+    part: &[u8],
     progress: Progress,
     line: &mut [u8],
     registers: &mut [u32],
@@ -69,25 +70,26 @@ fn take(
     out: &mut [u8],
 ) -> Progress
     requires { ⌜ (progress .length ≤ length (now line)) × (223 ≤ length (now name)) ⌝ }
-    ensures { λ r. ⌜ r .length ≤ length (now (line .entry)) ⌝ }
+    ensures { λ r. ⌜ r .length ≡ 0 ⌝ }
 {
-    let length = progress.length;
+    let kept = progress.length;
     let used = progress.used;
-    if character == b'\n' {
-        let end = answer_line(&line[..length], registers, name, picture, out, used);
+    if kept == 0 {
+        let end = answer_line(part, registers, name, picture, out, used);
         return Progress {
             length: 0,
             used: end,
         };
     }
-    let next = lines::write_character(line, length, character);
+    let whole = lines::keep(part, kept, line);
+    let end = answer_line(&line[..whole], registers, name, picture, out, used);
     Progress {
-        length: next,
-        used: used,
+        length: 0,
+        used: end,
     }
 }
 
-// Takes the characters of a chunk, and writes the answers out.
+// Answers the lines that end in a chunk, writes the answers out, and keeps what stands behind the last line feed.
 fn take_all(
     chunk: &[u8],
     progress: Progress,
@@ -101,14 +103,18 @@ fn take_all(
     ensures { λ r. ⌜ r .length ≤ length (now (line .entry)) ⌝ }
 {
     let mut now = progress;
-    let mut i = 0;
-    while i < chunk.len() {
-        now = take(chunk[i], now, line, registers, name, picture, out);
-        i += 1;
+    let mut start = 0;
+    loop {
+        let end = lines::line_end(chunk, start);
+        if end == chunk.len() {
+            break;
+        }
+        now = take(&chunk[start..end], now, line, registers, name, picture, out);
+        start = end + 1;
     }
     pieces::write_out(out, now.used);
     Progress {
-        length: now.length,
+        length: lines::keep(&chunk[start..], now.length, line),
         used: 0,
     }
 }
@@ -116,7 +122,7 @@ fn take_all(
 // Answers what stands behind the last line feed.
 fn finish(
     progress: Progress,
-    line: &mut [u8],
+    line: &[u8],
     registers: &mut [u32],
     name: &mut [u8],
     picture: &mut [u32],
@@ -124,11 +130,12 @@ fn finish(
 )
     requires { ⌜ (progress .length ≤ length (now line)) × (223 ≤ length (now name)) ⌝ }
 {
-    if progress.length == 0 {
+    let kept = progress.length;
+    if kept == 0 {
         return;
     }
-    let last = take(b'\n', progress, line, registers, name, picture, out);
-    pieces::write_out(out, last.used);
+    let used = answer_line(&line[..kept], registers, name, picture, out, progress.used);
+    pieces::write_out(out, used);
 }
 
 // Answers each line of standard input, in the rooms that are lent. There are more turns than any run uses up.

@@ -65,7 +65,7 @@ fn call_of(field: &[u8]) -> Call {
     }
 }
 
-// Reads the bytes behind a call field's first two digits, and answers how many there are.
+// Reads the bytes behind a call field's first two digits, and answers how many there are: none where they are no digits or too many.
 fn read_name(field: &[u8], name: &mut [u8]) -> usize
     ensures { λ r. ⌜ r ≤ length (now (name .entry)) ⌝ }
 {
@@ -74,6 +74,9 @@ fn read_name(field: &[u8], name: &mut [u8]) -> usize
     }
     let count = (field.len() - 2) / 2;
     if name.len() < count {
+        return 0;
+    }
+    if !lines::are_digits(field, 2, 2 * count) {
         return 0;
     }
     lines::read_bytes(field, 2, count, name);

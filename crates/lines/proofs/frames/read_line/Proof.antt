@@ -1,11 +1,20 @@
 -- `lines::frames::read_line` meets its contract: one law of the meaning for each way out. Assumes nothing.
 use mathlib.Core.Path.{_≡_, sym, _∙_}
+use mathlib.Core.Bool.{true}
+use lib.ListN.{length}
+use Rattle.lines.specs.Digits.{digits}
+use Rattle.lines.proofs.Reader.{digits-part}
 use borrow.Author.Tests.{not-true, not-false}
 use Rattle.lines.specs.Frames.{frame, called}
 use Rattle.lines.proofs.Meaning.{told-as, told-bad, told-pick, told-tick, empty-bad, long-bad, odd-bad, strange-bad, fair-called, pick-alone, pick-left-over, tick-alone, tick-left-over, trap-called}
 use borrow.Author.Needs.{needs}
+use native.Mathlib.Omega.{arith}
 use Rattle.lines.proofs.frames.read_line.Statement.{statement}
 use Rattle.lines.proofs.frames.read_line.Tie as tie
+
+-- past its test the whole line is digits
+all : (c : tie.Else4) → digits (c .before .before .before .before .before .before .before .before .args .line .now) 0 (length (c .before .before .before .before .before .before .before .before .args .line .now)) ≡ true
+all c = sym (c .before .are-digits .ensures) ∙ not-false _ (c .if4 .left)
 
 -- past the tests of the whole line, its first two digits say which frame it is
 fair : (c : tie.After-number-at) → frame (c .before .before .before .before .before .before .before .before .before .args .line .now) ≡ called (c .number-at .result) (c .before .before .before .before .before .before .before .before .before .args .line .now)
@@ -13,7 +22,7 @@ fair c =
     let e = c .before in
     let d = e .before .before in
     let s = d .before .before .before .before .before .before .args .line .now in
-    fair-called s (d .before .before .if1 .left) (d .before .if2 .left) (d .if3 .left) (sym (e .before .are-digits .ensures) ∙ not-false _ (e .if4 .left))
+    fair-called s (d .before .before .if1 .left) (d .before .if2 .left) (d .if3 .left) (all e)
     ∙ rw (c .number-at .ensures .0)
 
 returns : tie.Need-returns
@@ -34,7 +43,7 @@ returns-4 c =
     told-bad _ _ _ (strange-bad _ (d .before .before .if1 .left) (d .before .if2 .left) (d .if3 .left) (sym (c .before .are-digits .ensures) ∙ not-true _ (c .if4 .taken)))
 
 number-at-requires : tie.Need-number-at-requires
-number-at-requires c κs = search needs
+number-at-requires c κs = (omega arith, digits-part (c .before .before .before .before .before .before .before .before .args .line .now) 0 _ 0 2 (all c) (omega arith))
 
 returns-5 : tie.Need-returns-5
 returns-5 c = told-pick _ _ _ (fair (c .before .before) ∙ pick-alone _ _ (c .before .if5 .taken) (c .if6 .taken))
@@ -49,7 +58,7 @@ returns-8 : tie.Need-returns-8
 returns-8 c = told-bad _ _ _ (fair (c .before .before .before) ∙ tick-left-over _ _ (c .before .if7 .taken) (c .if8 .left))
 
 read-trap-requires : tie.Need-read-trap-requires
-read-trap-requires c κs = search needs
+read-trap-requires c κs = all (c .before .before .before .before .before)
 
 same-length : tie.Need-same-length
 same-length c = search needs

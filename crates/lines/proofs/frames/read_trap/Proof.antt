@@ -2,7 +2,9 @@
 use mathlib.Core.Path.{refl, sym, ap}
 use Rattle.lines.specs.declared.Line.the-variants.{Trap}
 use Rattle.lines.proofs.Meaning.{told-as, told-bad, length-numbers, trap-short, trap-named, trap-left-over, trap-whole}
+use Rattle.lines.proofs.Reader.{digits-part}
 use borrow.Author.Needs.{needs}
+use native.Mathlib.Omega.{arith}
 use Rattle.lines.proofs.frames.read_trap.Statement.{statement}
 use Rattle.lines.proofs.frames.read_trap.Tie as tie
 
@@ -13,10 +15,13 @@ sub-count : tie.Need-sub-count
 sub-count c = search needs
 
 read-words-requires : tie.Need-read-words-requires
-read-words-requires c κs = search needs
+read-words-requires c κs = let s = c .before .before .before .before .before .before in digits-part (s .args .line .now) 0 _ 2 64 (s .pre) (omega arith)
 
 read-bytes-requires : tie.Need-read-bytes-requires
-read-bytes-requires c κs = search needs
+read-bytes-requires c κs =
+    let t = c .before .before .before .before .before in
+    let s = t .before .before .before .before .before in
+    digits-part (s .args .line .now) 0 _ 66 _ (s .pre) (omega arith)
 
 same-length : tie.Need-same-length
 same-length c = search needs
@@ -36,7 +41,7 @@ returns-3 : tie.Need-returns-3
 returns-3 c = told-bad _ _ _ (trap-left-over _ _ (c .before .before .if1 .left) (c .before .if2 .left) (c .if3 .taken))
 
 read-words-requires-2 : tie.Need-read-words-requires-2
-read-words-requires-2 c κs = search needs
+read-words-requires-2 c κs = let s = c .before .before .before .before .before .before .before in digits-part (s .args .line .now) 0 _ 2 64 (s .pre) (omega arith)
 
 same-length-3 : tie.Need-same-length-3
 same-length-3 c = search needs

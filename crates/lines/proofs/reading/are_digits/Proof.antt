@@ -1,70 +1,48 @@
--- `lines::reading::are_digits` meets its contract: the characters that are left are digits if and only if all are; the measure is how many are left. Assumes nothing.
-use native.Mathlib.Nat.{sub-zero}
-use Prim.Native.Nat.{_<_, _-_}
-use mathlib.Core.Path.{_≡_, sym, _∙_}
-use borrow.Author.Tests.{not-true, not-false}
-use Rattle.lines.specs.Digits.{digits, digit, told}
-use lib.ListN.{length, getD}
-use mathlib.Core.Bool.{true}
-use Rattle.lines.proofs.Reader.{told-inside, digits-more, digits-not, digits-end}
-use borrow.Author.Needs.{needs}
+-- `lines::reading::are_digits` meets its contract: characters past the end are no digits, and those behind the eights decide. Assumes nothing.
+use mathlib.Core.Path.{sym, _∙_}
 use native.Mathlib.Omega.{arith}
+use Rattle.lines.proofs.Reader.{digits-none, digits-past}
+use borrow.Author.Needs.{needs}
 use Rattle.lines.proofs.reading.are_digits.Statement.{statement}
 use Rattle.lines.proofs.reading.are_digits.Tie as tie
 
-abbrev Inv-loop : tie.InvT-loop
-Inv-loop text place count i₀ k₀ i k = digits text place count ≡ digits text i (count - k)
+returns : tie.Need-returns
+returns c = sym (digits-none _ _ _ (c .if1 .taken))
 
-abbrev μ-loop : tie.MeasureT-loop
-μ-loop text place count i₀ k₀ i k = count - k
+returns-2 : tie.Need-returns-2
+returns-2 c = sym (digits-past _ _ _ (omega arith) (omega arith))
 
-is-one : (c : tie.Else1 Inv-loop μ-loop) → told (digit (getD (c .before .before .before .before .before .before .args .text .now) (c .before .before .before .before .loop .i) 0)) ≡ true
-is-one c = rw (c .before .before .character-at .ensures) at (sym (c .before .is-digit .ensures) ∙ not-false _ (c .if1 .left))
+sub-if3 : tie.Need-sub-if3
+sub-if3 c = search needs
 
-inside : (c : tie.Else1 Inv-loop μ-loop) → c .before .before .before .before .loop .i < length (c .before .before .before .before .before .before .args .text .now)
-inside c = told-inside (c .before .before .before .before .before .before .args .text .now) (c .before .before .before .before .loop .i) (is-one c)
+returns-3 : tie.Need-returns-3
+returns-3 c = sym (digits-past _ _ _ (omega arith) (omega arith))
 
-loop-holds : tie.Need-loop-holds Inv-loop μ-loop
-loop-holds c = rw sub-zero
+digits-by-eight-requires : tie.Need-digits-by-eight-requires
+digits-by-eight-requires c κs = search needs
 
-character-at-requires : tie.Need-character-at-requires Inv-loop μ-loop
-character-at-requires c κs = search needs
+add-digits-by-one : tie.Need-add-digits-by-one
+add-digits-by-one c = search needs
 
-is-digit-requires : tie.Need-is-digit-requires Inv-loop μ-loop
-is-digit-requires c κs = search needs
+sub-digits-by-one : tie.Need-sub-digits-by-one
+sub-digits-by-one c = search needs
 
-returns : tie.Need-returns Inv-loop μ-loop
-returns c =
-    let d = c .before .before .before in
-    sym (d .before .loop .inv ∙ digits-not _ _ _ _ (d .loop-test .taken) (rw (c .before .before .character-at .ensures) at (sym (c .before .is-digit .ensures) ∙ not-true _ (c .if1 .taken))))
+digits-by-one-requires : tie.Need-digits-by-one-requires
+digits-by-one-requires c κs = search needs
 
-add-i : tie.Need-add-i Inv-loop μ-loop
-add-i c = omega (arith, inside c)
-
-add-k : tie.Need-add-k Inv-loop μ-loop
-add-k c = search needs
-
-loop-less : tie.Need-loop-less Inv-loop μ-loop
-loop-less c = search needs
-
-loop-again : tie.Need-loop-again Inv-loop μ-loop
-loop-again c = let d = c .before .before .before in d .before .loop .inv ∙ digits-more _ _ _ _ (d .loop-test .taken) (is-one c)
-
-returns-2 : tie.Need-returns-2 Inv-loop μ-loop
-returns-2 c = sym (c .before .loop .inv ∙ digits-end _ _ _ _ (c .loop-test .left))
+returns-4 : tie.Need-returns-4
+returns-4 c = c .digits-by-one .ensures ∙ sym (c .before .digits-by-eight .ensures .1)
 
 pub are-digits-spec : {M : Type 1} → statement M
 are-digits-spec =
     tie.close
     (tie.spec
-    Inv-loop
-    μ-loop
-    loop-holds
-    character-at-requires
-    is-digit-requires
     returns
-    add-i
-    add-k
-    loop-less
-    loop-again
-    returns-2)
+    returns-2
+    sub-if3
+    returns-3
+    digits-by-eight-requires
+    add-digits-by-one
+    sub-digits-by-one
+    digits-by-one-requires
+    returns-4)

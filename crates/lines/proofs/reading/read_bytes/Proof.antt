@@ -1,11 +1,11 @@
 -- `lines::reading::read_bytes` meets its contract: storing what is left gives what storing all gives; the measure is how many are left. Assumes nothing.
 use native.Mathlib.Nat.{sub-zero}
 use mathlib.Core.Path.{_≡_, refl, sym, _∙_}
-use Prim.Native.Nat.{_≤_, _-_, _+_, _*_}
+use Prim.Native.Nat.{_≤_, _<_, _-_, _+_, _*_}
 use lib.ListN.{length, length-set}
 use lib.Seq.{sets}
 use Rattle.lines.specs.Digits.{numbers}
-use Rattle.lines.proofs.Reader.{numbers-more, numbers-end}
+use Rattle.lines.proofs.Reader.{digits-part, digits-inside, numbers-more, numbers-end}
 use borrow.Author.Needs.{needs}
 use native.Mathlib.Omega.{arith}
 use Rattle.lines.proofs.reading.read_bytes.Statement.{statement}
@@ -17,11 +17,20 @@ Inv-loop text place count bytes₀ i₀ k₀ bytes i k = (k ≤ count) × (i ≡
 abbrev μ-loop : tie.MeasureT-loop
 μ-loop text place count bytes₀ i₀ k₀ bytes i k = count - k
 
+-- the digits of a byte lie in the text
+inside : (c : tie.In-loop Inv-loop μ-loop) → c .before .before .before .before .args .place + (2 * c .before .loop .k + 1) < length (c .before .before .before .before .args .text .now)
+inside c =
+    let s = c .before .before .before .before in
+    digits-inside (s .args .text .now) (s .args .place) (2 * s .args .count) (2 * c .before .loop .k + 1) (s .pre) (omega arith)
+
 loop-holds : tie.Need-loop-holds Inv-loop μ-loop
 loop-holds c = (omega arith, omega arith, refl, rw sub-zero)
 
 number-at-requires : tie.Need-number-at-requires Inv-loop μ-loop
-number-at-requires c κs = omega arith
+number-at-requires c κs =
+    let d = c .before .before .loop in
+    let s = c .before .before .before .before .before in
+    (omega arith, rw (d .inv .1) (digits-part (s .args .text .now) (s .args .place) (2 * s .args .count) (2 * d .k) 2 (s .pre) (omega arith)))
 
 cast-put-byte : tie.Need-cast-put-byte Inv-loop μ-loop
 cast-put-byte c = search needs
@@ -30,7 +39,7 @@ put-byte-requires : tie.Need-put-byte-requires Inv-loop μ-loop
 put-byte-requires c κs = search needs
 
 add-i : tie.Need-add-i Inv-loop μ-loop
-add-i c = search needs
+add-i c = omega (arith, inside (c .before .before .before .before .before))
 
 add-k : tie.Need-add-k Inv-loop μ-loop
 add-k c = search needs

@@ -1,9 +1,8 @@
--- `lines::reading::read_number` meets its contract: digits lie in the text, so their place fits. Assumes nothing.
+-- `lines::reading::read_number` meets its contract: the tests in order. Assumes nothing.
 use mathlib.Core.Path.{sym, ap, _∙_}
 use borrow.Author.Tests.{lt-leb, le-leb, not-true, not-false}
 use Rattle.lines.specs.Digits.{read}
 use Rattle.lines.specs.declared.Read.the-variants.{Number}
-use Rattle.lines.proofs.Reader.{digits-fit}
 use borrow.Author.Needs.{needs}
 use native.Mathlib.Omega.{arith}
 use Rattle.lines.proofs.reading.read_number.Statement.{statement}
@@ -21,9 +20,7 @@ unfolding read
 returns-2 c = rw (le-leb _ _ (c .before .before .if1 .left), sym (c .before .are-digits .ensures) ∙ not-true _ (c .if2 .taken))
 
 number-at-requires : tie.Need-number-at-requires
-number-at-requires c κs =
-    let a = c .before .before .before .before .args in
-    (omega arith, digits-fit (a .text .now) (a .place) (a .count) 18446744073709551616 (sym (c .before .are-digits .ensures) ∙ not-false _ (c .if2 .left)) (omega arith) (omega arith))
+number-at-requires c κs = (omega arith, sym (c .before .are-digits .ensures) ∙ not-false _ (c .if2 .left))
 
 returns-3 : tie.Need-returns-3
 unfolding read

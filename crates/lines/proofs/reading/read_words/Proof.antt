@@ -1,11 +1,11 @@
 -- `lines::reading::read_words` meets its contract: storing what is left gives what storing all gives; the measure is how many are left. Assumes nothing.
 use native.Mathlib.Nat.{sub-zero}
 use mathlib.Core.Path.{_≡_, refl, sym, _∙_}
-use Prim.Native.Nat.{_≤_, _-_, _+_, _*_}
+use Prim.Native.Nat.{_≤_, _<_, _-_, _+_, _*_}
 use lib.ListN.{length, length-set}
 use lib.Seq.{sets}
 use Rattle.lines.specs.Digits.{numbers}
-use Rattle.lines.proofs.Reader.{numbers-more, numbers-end}
+use Rattle.lines.proofs.Reader.{digits-part, digits-inside, numbers-more, numbers-end}
 use borrow.Author.Needs.{needs}
 use native.Mathlib.Omega.{arith}
 use Rattle.lines.proofs.reading.read_words.Statement.{statement}
@@ -17,17 +17,26 @@ Inv-loop text place count words₀ i₀ k₀ words i k = (k ≤ count) × (i ≡
 abbrev μ-loop : tie.MeasureT-loop
 μ-loop text place count words₀ i₀ k₀ words i k = count - k
 
+-- the digits of a word lie in the text
+inside : (c : tie.In-loop Inv-loop μ-loop) → c .before .before .before .before .args .place + (8 * c .before .loop .k + 7) < length (c .before .before .before .before .args .text .now)
+inside c =
+    let s = c .before .before .before .before in
+    digits-inside (s .args .text .now) (s .args .place) (8 * s .args .count) (8 * c .before .loop .k + 7) (s .pre) (omega arith)
+
 loop-holds : tie.Need-loop-holds Inv-loop μ-loop
 loop-holds c = (omega arith, omega arith, refl, rw sub-zero)
 
 number-at-requires : tie.Need-number-at-requires Inv-loop μ-loop
-number-at-requires c κs = omega arith
+number-at-requires c κs =
+    let d = c .before .before .loop in
+    let s = c .before .before .before .before .before in
+    (omega arith, rw (d .inv .1) (digits-part (s .args .text .now) (s .args .place) (8 * s .args .count) (8 * d .k) 8 (s .pre) (omega arith)))
 
 put-word-requires : tie.Need-put-word-requires Inv-loop μ-loop
 put-word-requires c κs = search needs
 
 add-i : tie.Need-add-i Inv-loop μ-loop
-add-i c = search needs
+add-i c = omega (arith, inside (c .before .before .before .before .before))
 
 add-k : tie.Need-add-k Inv-loop μ-loop
 add-k c = search needs

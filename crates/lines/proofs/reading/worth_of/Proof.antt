@@ -1,24 +1,24 @@
--- `lines::reading::worth_of` meets its contract: by the answer of `digit_of`. Assumes nothing.
-use mathlib.Core.Path.{sym, ap, _∙_}
-use Rattle.lines.specs.Digits.{worth}
+-- `lines::reading::worth_of` meets its contract: a digit is its last four bits, and 9 more for a letter. Assumes nothing.
+use mathlib.Core.Path.{_∙_}
+use Rattle.lines.proofs.Reader.{worth-bits, worth-small}
 use borrow.Author.Needs.{needs}
 use Rattle.lines.proofs.reading.worth_of.Statement.{statement}
 use Rattle.lines.proofs.reading.worth_of.Tie as tie
 
-digit-of-requires : tie.Need-digit-of-requires
-digit-of-requires c κs = search needs
+mul-wide : tie.Need-mul-wide
+mul-wide c = search needs
 
-enum-known-value : tie.Need-enum-known-value
-enum-known-value c = search needs
+add-wide : tie.Need-add-wide
+add-wide c = search needs
 
-enum-told : tie.Need-enum-told
-enum-told c = search needs
+wide-requires : tie.Need-wide-requires
+wide-requires c κs = search needs
 
 returns : tie.Need-returns
-returns c = sym (ap worth (sym (c .before .before .digit-of .ensures) ∙ c .enum-told .given .1))
-
-returns-2 : tie.Need-returns-2
-returns-2 c = sym (ap worth (sym (c .before .before .before .digit-of .ensures) ∙ c .before .value .given .1))
+returns c =
+    let s = c .before in
+    let e = c .wide .ensures ∙ worth-bits (s .args .character) (s .pre) in
+    (e, rw e (worth-small (s .args .character)))
 
 pub worth-of-spec : {M : Type 1} → statement M
-worth-of-spec = tie.close (tie.spec digit-of-requires enum-known-value enum-told returns returns-2)
+worth-of-spec = tie.close (tie.spec mul-wide add-wide wide-requires returns)

@@ -1,16 +1,10 @@
--- `session::running::take` meets its contract: the line's length stays within its room. Assumes nothing.
+-- `session::running::take` meets its contract: a line is filled within its room. Assumes nothing.
 use mathlib.Core.Path.{sym}
+use native.Mathlib.Omega.{arith}
 use lib.Seq.{length-take-le}
-use Rattle.lines.proofs.Writer.{past-inside}
 use borrow.Author.Needs.{needs}
 use Rattle.session.proofs.running.take.Statement.{statement}
 use Rattle.session.proofs.running.take.Tie as tie
-
-slice-reshare-prefix-answer-line : tie.Need-slice-reshare-prefix-answer-line
-slice-reshare-prefix-answer-line c = search needs
-
-slice-aggregate-answer-line : tie.Need-slice-aggregate-answer-line
-slice-aggregate-answer-line c = let s = c .before .before .before .before .before .before .before in sym (length-take-le (s .args .progress .length) (s .args .line .now) (s .pre .0))
 
 answer-line-requires : tie.Need-answer-line-requires
 answer-line-requires c κs = search needs
@@ -27,37 +21,56 @@ same-length-3 c = search needs
 same-length-4 : tie.Need-same-length-4
 same-length-4 c = search needs
 
-same-length-5 : tie.Need-same-length-5
-same-length-5 c = search needs
-
 returns : tie.Need-returns
 returns c = search needs
 
-write-character-requires : tie.Need-write-character-requires
-write-character-requires c κs = search needs
+keep-requires : tie.Need-keep-requires
+keep-requires c κs = search needs
+
+slice-reshare-prefix-answer-line : tie.Need-slice-reshare-prefix-answer-line
+slice-reshare-prefix-answer-line c = search needs
+
+slice-aggregate-answer-line : tie.Need-slice-aggregate-answer-line
+slice-aggregate-answer-line c = let k = c .before .before .before .keep in sym (length-take-le (k .result) (k .last .1 .1 .0) (omega (arith, k .ensures .0 .1, k .kept .1 .1 .0)))
+
+answer-line-requires-2 : tie.Need-answer-line-requires-2
+answer-line-requires-2 c κs = search needs
+
+same-length-5 : tie.Need-same-length-5
+same-length-5 c = search needs
 
 same-length-6 : tie.Need-same-length-6
 same-length-6 c = search needs
 
+same-length-7 : tie.Need-same-length-7
+same-length-7 c = search needs
+
+same-length-8 : tie.Need-same-length-8
+same-length-8 c = search needs
+
+same-length-9 : tie.Need-same-length-9
+same-length-9 c = search needs
+
 returns-2 : tie.Need-returns-2
-returns-2 c =
-    let w = c .before .before in
-    let s = w .before .before .before .before .before .before .before .before in
-    rw (w .write-character .ensures .0) (past-inside (s .args .line .now) (s .args .progress .length) 1 (s .pre .0))
+returns-2 c = search needs
 
 pub take-spec : {M : Type 1} → statement M
 take-spec =
     tie.close
     (tie.spec
-    slice-reshare-prefix-answer-line
-    slice-aggregate-answer-line
     answer-line-requires
     same-length
     same-length-2
     same-length-3
     same-length-4
-    same-length-5
     returns
-    write-character-requires
+    keep-requires
+    slice-reshare-prefix-answer-line
+    slice-aggregate-answer-line
+    answer-line-requires-2
+    same-length-5
     same-length-6
+    same-length-7
+    same-length-8
+    same-length-9
     returns-2)

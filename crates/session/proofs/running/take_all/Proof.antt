@@ -1,6 +1,6 @@
 -- `session::running::take_all` meets its contract: the rooms keep their lengths and the line stays within its own; the measure is what is left of the chunk. Assumes nothing.
 use mathlib.Core.Path.{_≡_, refl, _∙_}
-use Prim.Native.Nat.{_≤_, _-_}
+use Prim.Native.Nat.{_≤_, _<_, _-_}
 use lib.ListN.{length}
 use borrow.Author.Needs.{needs}
 use native.Mathlib.Omega.{arith}
@@ -8,38 +8,67 @@ use Rattle.session.proofs.running.take_all.Statement.{statement}
 use Rattle.session.proofs.running.take_all.Tie as tie
 
 abbrev Inv-loop : tie.InvT-loop
-Inv-loop chunk line₀ registers₀ name₀ picture₀ out₀ now₀ i₀ line registers name picture out now i =
-    (i ≤ length chunk) × (now .length ≤ length line) × (223 ≤ length name)
+Inv-loop chunk line₀ registers₀ name₀ picture₀ out₀ now₀ start₀ line registers name picture out now start =
+    (start ≤ length chunk) × (now .length ≤ length line) × (223 ≤ length name)
     × (length line ≡ length line₀) × (length registers ≡ length registers₀) × (length name ≡ length name₀)
     × (length picture ≡ length picture₀) × (length out ≡ length out₀)
 
 abbrev μ-loop : tie.MeasureT-loop
-μ-loop chunk line₀ registers₀ name₀ picture₀ out₀ now₀ i₀ line registers name picture out now i = length chunk - i
+μ-loop chunk line₀ registers₀ name₀ picture₀ out₀ now₀ start₀ line registers name picture out now start = length chunk - start
+
+-- a line feed stands in the chunk, behind the line's start
+inside : (c : tie.Else1 Inv-loop μ-loop) → (c .before .before .loop .start ≤ c .before .line-end .result) × (c .before .line-end .result < length (c .before .before .before .before .before .before .before .before .before .args .chunk .now))
+inside c =
+    let e = c .before .line-end .ensures .1 in
+    let m : c .before .line-end .result ≤ length (c .before .before .before .before .before .before .before .before .before .args .chunk .now) = e .1 (c .before .before .loop .inv .0) in
+    (e .0, omega (arith, c .if1 .left))
 
 loop-holds : tie.Need-loop-holds Inv-loop μ-loop
 loop-holds c = let s = c .before .before .before .before .before .before in (omega arith, s .pre .0, s .pre .1, refl, refl, refl, refl, refl)
 
-shared-slice-read-take : tie.Need-shared-slice-read-take Inv-loop μ-loop
-shared-slice-read-take c = search needs
+line-end-requires : tie.Need-line-end-requires Inv-loop μ-loop
+line-end-requires c κs = search needs
+
+sub-take : tie.Need-sub-take Inv-loop μ-loop
+sub-take c = omega (arith, inside c)
+
+part-take-start : tie.Need-part-take-start Inv-loop μ-loop
+part-take-start c = omega (arith, inside c)
+
+part-take-end : tie.Need-part-take-end Inv-loop μ-loop
+part-take-end c = omega (arith, inside c)
 
 take-requires : tie.Need-take-requires Inv-loop μ-loop
-take-requires c κs = let d = c .before .before .before .before .before .before .before .loop in (d .inv .1, d .inv .2)
+take-requires c κs = let d = c .before .before .before .before .before .before .before .before .loop in (d .inv .1, d .inv .2)
 
-add-i : tie.Need-add-i Inv-loop μ-loop
-add-i c = search needs
+add-start : tie.Need-add-start Inv-loop μ-loop
+add-start c = omega (arith, inside (c .before .before .before .before .before .before .before .before .before .before .before .before .before .before .before .before .before))
 
 loop-less : tie.Need-loop-less Inv-loop μ-loop
-loop-less c = search needs
+loop-less c = omega (arith, inside (c .before .before .before .before .before .before .before .before .before .before .before .before .before .before .before .before .before))
 
 loop-again : tie.Need-loop-again Inv-loop μ-loop
 loop-again c =
     let t = c .before .before .before .before .before .before .before .before .before .before .take in
-    let d = c .before .before .before .before .before .before .before .before .before .before .before .before .before .before .before .before .before .before .loop in
+    let e = c .before .before .before .before .before .before .before .before .before .before .before .before .before .before .before .before .before in
+    let d = e .before .before .loop in
     let k = t .kept .1 .1 in
-    (omega arith, rw (k .0) (t .ensures), rw (k .1 .1 .0) (d .inv .2), k .0 ∙ d .inv .3, k .1 .0 ∙ d .inv .4, k .1 .1 .0 ∙ d .inv .5, k .1 .1 .1 .0 ∙ d .inv .6, k .1 .1 .1 .1 .0 ∙ d .inv .7)
+    (omega (arith, inside e), omega (arith, t .ensures), rw (k .1 .1 .0) (d .inv .2), k .0 ∙ d .inv .3, k .1 .0 ∙ d .inv .4, k .1 .1 .0 ∙ d .inv .5, k .1 .1 .1 .0 ∙ d .inv .6, k .1 .1 .1 .1 .0 ∙ d .inv .7)
 
 write-out-requires : tie.Need-write-out-requires Inv-loop μ-loop
 write-out-requires c κs = search needs
+
+sub-keep : tie.Need-sub-keep Inv-loop μ-loop
+sub-keep c = search needs
+
+part-keep-start : tie.Need-part-keep-start Inv-loop μ-loop
+part-keep-start c = search needs
+
+part-keep-end : tie.Need-part-keep-end Inv-loop μ-loop
+part-keep-end c = search needs
+
+keep-requires : tie.Need-keep-requires Inv-loop μ-loop
+keep-requires c κs = search needs
 
 same-length : tie.Need-same-length Inv-loop μ-loop
 same-length c = search needs
@@ -57,7 +86,7 @@ same-length-5 : tie.Need-same-length-5 Inv-loop μ-loop
 same-length-5 c = search needs
 
 returns : tie.Need-returns Inv-loop μ-loop
-returns c = let d = c .before .before .before .loop in rw (d .inv .3) at (d .inv .1)
+returns c = let k = c .before .before in let d = k .before .before .before .before .before .before .before .loop in rw (d .inv .3) at (k .keep .ensures .0 .1)
 
 pub take-all-spec : {M : Type 1} → statement M
 take-all-spec =
@@ -66,12 +95,19 @@ take-all-spec =
     Inv-loop
     μ-loop
     loop-holds
-    shared-slice-read-take
+    line-end-requires
+    sub-take
+    part-take-start
+    part-take-end
     take-requires
-    add-i
+    add-start
     loop-less
     loop-again
     write-out-requires
+    sub-keep
+    part-keep-start
+    part-keep-end
+    keep-requires
     same-length
     same-length-2
     same-length-3

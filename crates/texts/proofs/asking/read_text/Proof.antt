@@ -3,6 +3,7 @@ use mathlib.Core.Path.{sym, ap, _∙_}
 use native.Mathlib.Omega.{arith}
 use borrow.Author.Tests.{not-true, not-false}
 use Rattle.lines.proofs.Meaning.{length-numbers}
+use Rattle.lines.proofs.Reader.{digits-part}
 use Rattle.texts.specs.declared.Count.the-variants.{Of}
 use Rattle.texts.proofs.Meaning.{told-as, told-none, told-nothing, text-none, text-empty, text-long, text-odd, text-strange, text-fair}
 use borrow.Author.Needs.{needs}
@@ -40,7 +41,10 @@ returns-5 c =
     (tt, told-nothing _ _ (text-strange _ _ (sym (e .before .is-none .ensures) ∙ e .if1 .left) (d .before .before .if2 .left) (d .before .if3 .left) (d .if4 .left) (sym (c .before .are-digits .ensures) ∙ not-true _ (c .if5 .taken))))
 
 read-bytes-requires : tie.Need-read-bytes-requires
-read-bytes-requires c κs = search needs
+read-bytes-requires c κs =
+    let f = c .before in
+    let a = f .before .before .before .before .before .before .before .before .before .args in
+    digits-part (a .field .now) 0 _ 0 _ (sym (f .before .are-digits .ensures) ∙ not-false _ (f .if5 .left)) (omega arith)
 
 same-length : tie.Need-same-length
 same-length c = search needs
