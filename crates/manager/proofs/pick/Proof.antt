@@ -25,7 +25,7 @@ returns c = let s = sym (c .before .is-sound .ensures) ∙ not-true _ (c .if1 .t
 
 -- src/lib.rt:80:5
 pick-turn-requires : tie.Need-pick-turn-requires
-pick-turn-requires c κs = sound-tables _ (sym (c .before .is-sound .ensures) ∙ not-false _ (c .if1 .left))
+pick-turn-requires c κs = sound-tables _ (sym (c .before .before .is-sound .ensures) ∙ not-false _ (c .before .if1 .left))
 
 -- src/lib.rt:71:1
 same-length-2 : tie.Need-same-length-2

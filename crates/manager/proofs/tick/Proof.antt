@@ -25,7 +25,7 @@ returns c = let s = sym (c .before .is-sound .ensures) ∙ not-true _ (c .if1 .t
 
 -- src/lib.rt:90:5
 tick-frame-requires : tie.Need-tick-frame-requires
-tick-frame-requires c κs = sound-tables _ (sym (c .before .is-sound .ensures) ∙ not-false _ (c .if1 .left))
+tick-frame-requires c κs = sound-tables _ (sym (c .before .before .is-sound .ensures) ∙ not-false _ (c .before .if1 .left))
 
 -- src/lib.rt:84:1
 same-length-2 : tie.Need-same-length-2
