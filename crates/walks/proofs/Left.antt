@@ -11,7 +11,7 @@ use Rattle.words.proofs.Tests.{both}
 use Rattle.picture.specs.declared.Table.{Table}
 use Rattle.blocks.specs.Header.{size, kind, kind-of}
 use Rattle.areas.specs.Rules.{length-whole, tiles}
-use Rattle.blocks.specs.Walk.{next, starts}
+use Rattle.blocks.specs.Walk.{good, next, starts}
 use Rattle.blocks.proofs.Starts.{all-end, all-not, all-more, total-end, total-more}
 use Rattle.walks.specs.Walks.{block-fine, blocks-walked}
 use Rattle.matching.specs.declared.Walked.{Walked}
@@ -64,3 +64,12 @@ header-within p e i h t =
 pub fine-within : (p : List ℕ) (t : Table) (e i : ℕ) → block-fine p t e i ≡ true → i + 3 < e
 unfolding block-fine
 fine-within p t e i h = let a = both _ _ h in header-within p e i (a .0) (both _ _ (a .1) .0)
+
+-- the block behind a fine one of r bytes starts where that ends
+pub fine-next : (p : List ℕ) (t : Table) (e i r : ℕ) → r ≡ size p i → block-fine p t e i ≡ true → i + r / 4 ≡ next p i e
+unfolding block-fine next good length-whole tiles
+fine-next p t e i r q h =
+    let a = both (length-whole p i) _ h in
+    let b = both (tiles p e i) _ (a .1) in
+    let c = both (eqb (size p i % 16) 0) (leb 16 (size p i)) (a .0) in
+    rw (q, c .0, c .1, b .0)

@@ -99,7 +99,7 @@ pub fn walk_blocks(p: &[u32], t: Table, b: usize, e: usize, noted: &[u8; 64]) ->
             return Walked::Broken;
         }
         found += matching::one_of(word_at(p, i + 1) == kind);
-        i = blocks::next_block(p, i, e);
+        i += word_at(p, i) as usize / 4;
     }
     Walked::Counted(found)
 }

@@ -1,5 +1,5 @@
-use Rattle.walks.proofs.Left.{Left, fine-within, left-first, left-next, left-broken, left-counted}
-use Rattle.blocks.proofs.Walk.{next-up, next-falls}
+use Rattle.walks.proofs.Left.{Left, fine-within, fine-next, left-first, left-next, left-broken, left-counted}
+use Rattle.blocks.proofs.Walk.{next-up, next-le, next-falls}
 use Rattle.words.specs.Each.{one}
 use borrow.Author.Tests.{not-true, not-false}
 use lib.Dec.{eqb}
@@ -12,10 +12,9 @@ use Rattle.walks.proofs.walk_blocks.Tie as tie
 use Rattle.walks.proofs.walk_blocks.Reads as reads
 use Rattle.walks.proofs.walk_blocks.Lts as lts
 use Rattle.blocks.proofs.kind_of.Reads as kind-of-reads
-use Rattle.blocks.proofs.next_block.Reads as next-block-reads
 use Rattle.matching.proofs.one_of.Reads as one-of-reads
-use Rattle.walks.proofs.is_block_fine.Reads as is-block-fine-reads
 use Rattle.tables.proofs.word_at.Reads as word-at-reads
+use Rattle.walks.proofs.is_block_fine.Reads as is-block-fine-reads
 
 abbrev Inv-loop : tie.InvT-loop
 Inv-loop p t b e noted kind i₀ found₀ i found = Left p t b e i found
@@ -23,29 +22,29 @@ Inv-loop p t b e noted kind i₀ found₀ i found = Left p t b e i found
 abbrev μ-loop : tie.MeasureT-loop
 μ-loop p t b e noted kind i₀ found₀ i found = e - i
 
--- src/lib.rt:213:9
+-- src/lib.rt:94:9
 kind-of-requires : tie.Need-kind-of-requires Inv-loop μ-loop
 kind-of-requires c κs = search needs
 
--- src/lib.rt:216:5
+-- src/lib.rt:97:5
 loop-holds : tie.Need-loop-holds Inv-loop μ-loop
 loop-holds c = left-first _ _ _ _
 
--- src/lib.rt:217:13
+-- src/lib.rt:98:13
 is-block-fine-requires : tie.Need-is-block-fine-requires Inv-loop μ-loop
 is-block-fine-requires c κs = search needs
 
--- src/lib.rt:218:13
+-- src/lib.rt:99:13
 returns : tie.Need-returns Inv-loop μ-loop
 returns c =
     let l = c .before .before in
     left-broken _ _ _ _ _ _ (l .before .loop .inv) (l .loop-test .taken) (sym (c .before .is-block-fine .ensures) ∙ not-true _ (c .if1 .taken))
 
--- src/lib.rt:220:43
+-- src/lib.rt:101:46
 add-word-at : tie.Need-add-word-at Inv-loop μ-loop
 add-word-at c = search needs
 
--- src/lib.rt:220:35
+-- src/lib.rt:101:35
 word-at-requires : tie.Need-word-at-requires Inv-loop μ-loop
 word-at-requires c κs =
     let l = c .before .before in
@@ -53,34 +52,59 @@ word-at-requires c κs =
     let w = fine-within (a .args .p .now) (a .args .t) (a .args .e) (l .before .loop .i) (sym (c .before .is-block-fine .ensures) ∙ not-false _ (c .if1 .left)) in
     omega (arith, a .pre .1 .0)
 
--- src/lib.rt:220:18
+-- src/lib.rt:101:18
 one-of-requires : tie.Need-one-of-requires Inv-loop μ-loop
 one-of-requires c κs = search needs
 
--- src/lib.rt:220:9
+-- src/lib.rt:101:9
 add-found : tie.Need-add-found Inv-loop μ-loop
 add-found c = let n = c .before .before .before .before .before .loop .inv .few in omega (arith, c .one-of .ensures .1)
 
--- src/lib.rt:221:9
-next-block-requires : tie.Need-next-block-requires Inv-loop μ-loop
-next-block-requires c κs = search needs
+-- src/lib.rt:102:14
+word-at-requires-2 : tie.Need-word-at-requires-2 Inv-loop μ-loop
+word-at-requires-2 c κs =
+    let l = c .before .before .before .before in
+    let s = l .before .before .before .before in
+    omega (arith, s .pre .1 .0, l .loop-test .taken)
 
--- src/lib.rt:216:5
+-- src/lib.rt:102:14
+cast-i : tie.Need-cast-i Inv-loop μ-loop
+cast-i c = search needs
+
+-- src/lib.rt:102:9
+add-i : tie.Need-add-i Inv-loop μ-loop
+add-i c =
+    let w = c .before .before in
+    let d = w .before in
+    let l = d .before .before in
+    let a = l .before .before .before .before .args in
+    let z = fine-next (a .p .now) (a .t) (a .e) (l .before .loop .i) (c .word-at2 .result) (c .word-at2 .ensures) (sym (d .before .is-block-fine .ensures) ∙ not-false _ (d .if1 .left)) in
+    let n = next-le (a .p .now) (l .before .loop .i) (a .e) in
+    omega (arith, l .before .before .before .before .pre .1 .1)
+
+-- src/lib.rt:97:5
 loop-less : tie.Need-loop-less Inv-loop μ-loop
-loop-less c = next-falls _ _ _ _ (c .next-block .ensures) (c .before .before .before .before .before .loop-test .taken)
+loop-less c =
+    let w = c .before .before in
+    let d = w .before in
+    let l = d .before .before in
+    let a = l .before .before .before .before .args in
+    next-falls _ _ _ _ (fine-next (a .p .now) (a .t) (a .e) (l .before .loop .i) (c .word-at2 .result) (c .word-at2 .ensures) (sym (d .before .is-block-fine .ensures) ∙ not-false _ (d .if1 .left))) (l .loop-test .taken)
 
--- src/lib.rt:216:5
+-- src/lib.rt:97:5
 loop-again : tie.Need-loop-again Inv-loop μ-loop
 loop-again c =
     let w = c .before .before in
     let d = w .before in
     let l = d .before .before in
-    let u = next-up (l .before .before .before .before .args .p .now) (l .before .loop .i) (l .before .before .before .before .args .e) (l .loop-test .taken) in
+    let a = l .before .before .before .before .args in
+    let z = fine-next (a .p .now) (a .t) (a .e) (l .before .loop .i) (c .word-at2 .result) (c .word-at2 .ensures) (sym (d .before .is-block-fine .ensures) ∙ not-false _ (d .if1 .left)) in
+    let u = next-up (a .p .now) (l .before .loop .i) (a .e) (l .loop-test .taken) in
     left-next _ _ _ _ _ _ _ _ (l .before .loop .inv) (l .loop-test .taken) (sym (d .before .is-block-fine .ensures) ∙ not-false _ (d .if1 .left))
     (c .before .one-of .ensures .0 ∙ rw (w .word-at .ensures, l .before .before .kind-of .ensures))
-    (c .before .one-of .ensures .1) (c .next-block .ensures) (rw (c .next-block .ensures) (u .0))
+    (c .before .one-of .ensures .1) z (rw z (u .0))
 
--- src/lib.rt:209:1
+-- src/lib.rt:90:1
 returns-2 : tie.Need-returns-2 Inv-loop μ-loop
 returns-2 c = left-counted _ _ _ _ _ _ (c .before .loop .inv) (c .loop-test .left)
 
@@ -98,7 +122,9 @@ walk-blocks-spec =
     word-at-requires
     one-of-requires
     add-found
-    next-block-requires
+    word-at-requires-2
+    cast-i
+    add-i
     loop-less
     loop-again
     returns-2)
