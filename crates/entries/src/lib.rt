@@ -37,7 +37,8 @@ pub fn is_zero_fine(p: &[u32], k: usize) -> bool
     if k != 0 {
         return true;
     }
-    records::zero_exists(p, k) & (records::zero_base(p, k) & records::zero_unowned(p, k))
+    job_records::zero_exists(p, k)
+        & (job_records::zero_base(p, k) & job_records::zero_unowned(p, k))
 }
 
 // The rules of a job in use.
@@ -51,22 +52,22 @@ pub fn is_job_fine(p: &[u32], k: usize) -> bool
     if !is_zero_fine(p, k) {
         return false;
     }
-    if !records::priority_within(p, k) {
+    if !job_records::priority_within(p, k) {
         return false;
     }
-    if !records::accumulated_within(p, k) {
+    if !job_records::accumulated_within(p, k) {
         return false;
     }
-    if !records::timeout_within(p, k) {
+    if !job_records::timeout_within(p, k) {
         return false;
     }
-    if !records::owner_older(p, k) {
+    if !job_records::owner_older(p, k) {
         return false;
     }
-    if !records::waits_well(p, k) {
+    if !job_records::waits_well(p, k) {
         return false;
     }
-    records::idle_zero(p, k)
+    job_records::idle_zero(p, k)
 }
 
 // The rules of a channel in use.
@@ -97,7 +98,7 @@ pub fn is_blank_fine(p: &[u32], t: Table, k: usize) -> bool
     ensures { λ r. ⌜ r ≡ blankFine (now (p .entry)) t k ⌝ }
 {
     match t {
-        Table::Jobs => (1 <= k) & records::is_job_zero(p, k),
+        Table::Jobs => (1 <= k) & job_records::is_job_zero(p, k),
         Table::Channels => records::is_channel_zero(p, k),
     }
 }

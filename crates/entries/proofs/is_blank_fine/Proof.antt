@@ -7,7 +7,7 @@ use Rattle.entries.proofs.is_blank_fine.Tie as tie
 use Rattle.entries.proofs.is_blank_fine.Reads as reads
 use Rattle.entries.proofs.is_blank_fine.Lts as lts
 use Rattle.records.proofs.is_channel_zero.Reads as is-channel-zero-reads
-use Rattle.records.proofs.is_job_zero.Reads as is-job-zero-reads
+use Rattle.job_records.proofs.is_job_zero.Reads as is-job-zero-reads
 
 -- src/lib.rt:98:25
 enum-told : tie.Need-enum-told

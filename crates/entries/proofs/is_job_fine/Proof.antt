@@ -8,12 +8,12 @@ use Rattle.entries.proofs.is_job_fine.Reads as reads
 use Rattle.entries.proofs.is_job_fine.Lts as lts
 use Rattle.entries.proofs.is_entry_fine.Reads as is-entry-fine-reads
 use Rattle.entries.proofs.is_zero_fine.Reads as is-zero-fine-reads
-use Rattle.records.proofs.accumulated_within.Reads as accumulated-within-reads
-use Rattle.records.proofs.idle_zero.Reads as idle-zero-reads
-use Rattle.records.proofs.owner_older.Reads as owner-older-reads
-use Rattle.records.proofs.priority_within.Reads as priority-within-reads
-use Rattle.records.proofs.timeout_within.Reads as timeout-within-reads
-use Rattle.records.proofs.waits_well.Reads as waits-well-reads
+use Rattle.job_records.proofs.accumulated_within.Reads as accumulated-within-reads
+use Rattle.job_records.proofs.idle_zero.Reads as idle-zero-reads
+use Rattle.job_records.proofs.owner_older.Reads as owner-older-reads
+use Rattle.job_records.proofs.priority_within.Reads as priority-within-reads
+use Rattle.job_records.proofs.timeout_within.Reads as timeout-within-reads
+use Rattle.job_records.proofs.waits_well.Reads as waits-well-reads
 
 -- src/lib.rt:46:9
 is-entry-fine-requires : tie.Need-is-entry-fine-requires

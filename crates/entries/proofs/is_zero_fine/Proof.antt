@@ -6,9 +6,9 @@ use Rattle.entries.proofs.is_zero_fine.Statement.{statement}
 use Rattle.entries.proofs.is_zero_fine.Tie as tie
 use Rattle.entries.proofs.is_zero_fine.Reads as reads
 use Rattle.entries.proofs.is_zero_fine.Lts as lts
-use Rattle.records.proofs.zero_base.Reads as zero-base-reads
-use Rattle.records.proofs.zero_exists.Reads as zero-exists-reads
-use Rattle.records.proofs.zero_unowned.Reads as zero-unowned-reads
+use Rattle.job_records.proofs.zero_base.Reads as zero-base-reads
+use Rattle.job_records.proofs.zero_exists.Reads as zero-exists-reads
+use Rattle.job_records.proofs.zero_unowned.Reads as zero-unowned-reads
 
 -- src/lib.rt:36:9
 returns : tie.Need-returns

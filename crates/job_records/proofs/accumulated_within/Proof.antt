@@ -1,9 +1,9 @@
 use Rattle.records.specs.Rules.{accumulated-within}
 use borrow.Author.Needs.{needs}
-use Rattle.records.proofs.accumulated_within.Statement.{statement}
-use Rattle.records.proofs.accumulated_within.Tie as tie
-use Rattle.records.proofs.accumulated_within.Reads as reads
-use Rattle.records.proofs.accumulated_within.Lts as lts
+use Rattle.job_records.proofs.accumulated_within.Statement.{statement}
+use Rattle.job_records.proofs.accumulated_within.Tie as tie
+use Rattle.job_records.proofs.accumulated_within.Reads as reads
+use Rattle.job_records.proofs.accumulated_within.Lts as lts
 use Rattle.tables.proofs.field_of.Reads as field-of-reads
 
 -- src/lib.rt:54:5

@@ -1,10 +1,10 @@
 use Rattle.records.specs.Rules.{idle-zero}
 use borrow.Author.Tests.{eq-eqb, ne-eqb}
 use borrow.Author.Needs.{needs}
-use Rattle.records.proofs.idle_zero.Statement.{statement}
-use Rattle.records.proofs.idle_zero.Tie as tie
-use Rattle.records.proofs.idle_zero.Reads as reads
-use Rattle.records.proofs.idle_zero.Lts as lts
+use Rattle.job_records.proofs.idle_zero.Statement.{statement}
+use Rattle.job_records.proofs.idle_zero.Tie as tie
+use Rattle.job_records.proofs.idle_zero.Reads as reads
+use Rattle.job_records.proofs.idle_zero.Lts as lts
 use Rattle.tables.proofs.field_of.Reads as field-of-reads
 use Rattle.tables.proofs.is_ready.Reads as is-ready-reads
 

@@ -1,10 +1,10 @@
 use Rattle.records.specs.Rules.{waits-well}
 use borrow.Author.Tests.{eq-eqb, ne-eqb}
 use borrow.Author.Needs.{needs}
-use Rattle.records.proofs.waits_well.Statement.{statement}
-use Rattle.records.proofs.waits_well.Tie as tie
-use Rattle.records.proofs.waits_well.Reads as reads
-use Rattle.records.proofs.waits_well.Lts as lts
+use Rattle.job_records.proofs.waits_well.Statement.{statement}
+use Rattle.job_records.proofs.waits_well.Tie as tie
+use Rattle.job_records.proofs.waits_well.Reads as reads
+use Rattle.job_records.proofs.waits_well.Lts as lts
 use Rattle.tables.proofs.field_of.Reads as field-of-reads
 use Rattle.tables.proofs.is_live.Reads as is-live-reads
 

@@ -1,9 +1,9 @@
 use Rattle.records.specs.Rules.{timeout-within}
 use borrow.Author.Needs.{needs}
-use Rattle.records.proofs.timeout_within.Statement.{statement}
-use Rattle.records.proofs.timeout_within.Tie as tie
-use Rattle.records.proofs.timeout_within.Reads as reads
-use Rattle.records.proofs.timeout_within.Lts as lts
+use Rattle.job_records.proofs.timeout_within.Statement.{statement}
+use Rattle.job_records.proofs.timeout_within.Tie as tie
+use Rattle.job_records.proofs.timeout_within.Reads as reads
+use Rattle.job_records.proofs.timeout_within.Lts as lts
 use Rattle.tables.proofs.field_of.Reads as field-of-reads
 
 -- src/lib.rt:62:9

@@ -1,8 +1,8 @@
 use borrow.Author.Needs.{needs}
-use Rattle.records.proofs.is_job_zero.Statement.{statement}
-use Rattle.records.proofs.is_job_zero.Tie as tie
-use Rattle.records.proofs.is_job_zero.Reads as reads
-use Rattle.records.proofs.is_job_zero.Lts as lts
+use Rattle.job_records.proofs.is_job_zero.Statement.{statement}
+use Rattle.job_records.proofs.is_job_zero.Tie as tie
+use Rattle.job_records.proofs.is_job_zero.Reads as reads
+use Rattle.job_records.proofs.is_job_zero.Lts as lts
 use Rattle.tables.proofs.field_of.Reads as field-of-reads
 
 -- src/lib.rt:79:6

@@ -1,9 +1,9 @@
 use Rattle.records.specs.Rules.{zero-exists}
 use borrow.Author.Needs.{needs}
-use Rattle.records.proofs.zero_exists.Statement.{statement}
-use Rattle.records.proofs.zero_exists.Tie as tie
-use Rattle.records.proofs.zero_exists.Reads as reads
-use Rattle.records.proofs.zero_exists.Lts as lts
+use Rattle.job_records.proofs.zero_exists.Statement.{statement}
+use Rattle.job_records.proofs.zero_exists.Tie as tie
+use Rattle.job_records.proofs.zero_exists.Reads as reads
+use Rattle.job_records.proofs.zero_exists.Lts as lts
 use Rattle.tables.proofs.field_of.Reads as field-of-reads
 
 -- src/lib.rt:113:17

@@ -1,9 +1,9 @@
 use Rattle.records.specs.Rules.{zero-base}
 use borrow.Author.Needs.{needs}
-use Rattle.records.proofs.zero_base.Statement.{statement}
-use Rattle.records.proofs.zero_base.Tie as tie
-use Rattle.records.proofs.zero_base.Reads as reads
-use Rattle.records.proofs.zero_base.Lts as lts
+use Rattle.job_records.proofs.zero_base.Statement.{statement}
+use Rattle.job_records.proofs.zero_base.Tie as tie
+use Rattle.job_records.proofs.zero_base.Reads as reads
+use Rattle.job_records.proofs.zero_base.Lts as lts
 use Rattle.tables.proofs.field_of.Reads as field-of-reads
 
 -- src/lib.rt:38:17

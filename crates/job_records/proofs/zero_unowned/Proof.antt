@@ -1,9 +1,9 @@
 use Rattle.records.specs.Rules.{zero-unowned}
 use borrow.Author.Needs.{needs}
-use Rattle.records.proofs.zero_unowned.Statement.{statement}
-use Rattle.records.proofs.zero_unowned.Tie as tie
-use Rattle.records.proofs.zero_unowned.Reads as reads
-use Rattle.records.proofs.zero_unowned.Lts as lts
+use Rattle.job_records.proofs.zero_unowned.Statement.{statement}
+use Rattle.job_records.proofs.zero_unowned.Tie as tie
+use Rattle.job_records.proofs.zero_unowned.Reads as reads
+use Rattle.job_records.proofs.zero_unowned.Lts as lts
 use Rattle.tables.proofs.field_of.Reads as field-of-reads
 
 -- src/lib.rt:185:17

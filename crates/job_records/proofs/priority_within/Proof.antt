@@ -1,9 +1,9 @@
 use Rattle.records.specs.Rules.{priority-within}
 use borrow.Author.Needs.{needs}
-use Rattle.records.proofs.priority_within.Statement.{statement}
-use Rattle.records.proofs.priority_within.Tie as tie
-use Rattle.records.proofs.priority_within.Reads as reads
-use Rattle.records.proofs.priority_within.Lts as lts
+use Rattle.job_records.proofs.priority_within.Statement.{statement}
+use Rattle.job_records.proofs.priority_within.Tie as tie
+use Rattle.job_records.proofs.priority_within.Reads as reads
+use Rattle.job_records.proofs.priority_within.Lts as lts
 use Rattle.tables.proofs.field_of.Reads as field-of-reads
 
 -- src/lib.rt:46:5

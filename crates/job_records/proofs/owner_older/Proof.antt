@@ -1,10 +1,10 @@
 use Rattle.records.specs.Rules.{owner-older}
 use borrow.Author.Needs.{needs}
-use Rattle.records.proofs.owner_older.Statement.{statement}
-use Rattle.records.proofs.owner_older.Tie as tie
-use Rattle.records.proofs.owner_older.Reads as reads
-use Rattle.records.proofs.owner_older.Lts as lts
+use Rattle.job_records.proofs.owner_older.Statement.{statement}
+use Rattle.job_records.proofs.owner_older.Tie as tie
+use Rattle.job_records.proofs.owner_older.Reads as reads
+use Rattle.job_records.proofs.owner_older.Lts as lts
 use Rattle.records.proofs.tag_at.Reads as tag-at-reads
 use Rattle.tables.proofs.field_of.Reads as field-of-reads
 
 -- src/lib.rt:176:9
