@@ -1,22 +1,5 @@
 use crate::Asked;
 use crate::asking;
-ghost use mathlib.Core.Path.{_≡_};
-ghost use mir.Syntax.{w32};
-ghost use mir.Val.{toZ};
-
-// The first longword that stands for a negative number.
-const FIRST_NEGATIVE: u32 = 0x8000_0000;
-
-// A longword's bits as a signed number.
-fn signed(longword: u32) -> i32
-    ensures { λ r. ⌜ r ≡ toZ w32 longword ⌝ }
-{
-    if longword < FIRST_NEGATIVE {
-        longword as i32
-    } else {
-        !((!longword) as i32)
-    }
-}
 
 // Answers a line that is no trial.
 pub fn write_refusal(out: &mut [u8], used: usize) -> usize {
@@ -56,7 +39,7 @@ fn write_error(key: u32, text: &[u8], out: &mut [u8], used: usize) -> usize {
 
 // Asks for the text of a key, and answers with it.
 fn tell<'a>(key: u32, system: &'a [u8], driver: &'a [u8], out: &mut [u8], used: usize) -> usize {
-    let asked = signed(key);
+    let asked = words::signed_of(key);
     let answered = manager::error_key(asked, system, driver);
     let text = manager::error_text(asked, system, driver);
     write_error(words::bits_of(answered), text, out, used)

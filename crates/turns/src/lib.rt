@@ -13,12 +13,12 @@ use picture::Table;
 use picture::slot_of;
 use tables::field_of;
 use tables::is_ready;
+use words::FIRST_NEGATIVE;
 use words::put;
+use words::signed_of;
 ghost use mathlib.Core.Path.{_≡_};
 ghost use Prim.Native.Nat.{_+_, _<_, _≤_, min};
 ghost use lib.ListN.{length};
-ghost use mir.Syntax.{w32};
-ghost use mir.Val.{toZ};
 ghost use Rattle.words.specs.Words.{put};
 ghost use Rattle.picture.specs.Layout.{positions, width};
 ghost use Rattle.picture.specs.Records.{slot};
@@ -28,24 +28,10 @@ ghost use Rattle.turns.specs.Fields.{set-each as setEach, accumulated-fi
 ghost use Rattle.turns.specs.Pick.{preferred, chosen-job as chosenJob, accumulated-after as accumulatedAfter, picked, answer};
 ghost use Rattle.turns.specs.Tick.{fallen, ticked};
 
-// From here on a longword read as signed is negative.
-const FIRST_NEGATIVE: u32 = 0x8000_0000;
-
 // What a pick answers: the number of the job picked, and its key to deliver.
 pub struct Picked {
     pub number: u32,
     pub key: i32,
-}
-
-// A longword read as signed.
-fn signed(longword: u32) -> i32
-    ensures { λ r. ⌜ r ≡ toZ w32 longword ⌝ }
-{
-    if longword < FIRST_NEGATIVE {
-        longword as i32
-    } else {
-        !((!longword) as i32)
-    }
 }
 
 // Stores v as field f of the record of the job at position k.
@@ -139,7 +125,7 @@ pub fn pick_turn(p: &mut [u32]) -> Picked
         };
     }
     let number = field_of(p, Table::Jobs, m, NUMBER);
-    let key = signed(field_of(p, Table::Jobs, m, DELIVERED));
+    let key = signed_of(field_of(p, Table::Jobs, m, DELIVERED));
     give_gains(p, m);
     set_field(p, m, DELIVERED, 0);
     put(p, CURRENT_WORD, number);

@@ -63,6 +63,20 @@ pub fn low_half(register: u32) -> i32
     }
 }
 
+// From here on a longword read as signed is negative.
+pub const FIRST_NEGATIVE: u32 = 0x8000_0000;
+
+// A longword, read as signed.
+pub fn signed_of(longword: u32) -> i32
+    ensures { λ r. ⌜ r ≡ toZ w32 longword ⌝ }
+{
+    if longword < FIRST_NEGATIVE {
+        longword as i32
+    } else {
+        !((!longword) as i32)
+    }
+}
+
 // The 32 bits by which a key stands in a register.
 pub fn bits_of(key: i32) -> u32
     ensures { λ r. ⌜ r ≡ ofZ w32 key ⌝ }

@@ -12,7 +12,7 @@ use Rattle.picture.proofs.field_of.Reads as field-of-reads
 use Rattle.turns.proofs.chosen_job.Reads as chosen-job-reads
 use Rattle.turns.proofs.give_gains.Reads as give-gains-reads
 use Rattle.turns.proofs.set_field.Reads as set-field-reads
-use Rattle.turns.proofs.signed.Reads as signed-reads
+use Rattle.words.proofs.signed_of.Reads as signed-of-reads
 use Rattle.words.proofs.put.Reads as put-reads
 
 -- src/lib.rt:120:9
@@ -43,8 +43,8 @@ field-of-requires-2 : tie.Need-field-of-requires-2
 field-of-requires-2 c κs = search needs
 
 -- src/lib.rt:129:9
-signed-requires : tie.Need-signed-requires
-signed-requires c κs = search needs
+signed-of-requires : tie.Need-signed-of-requires
+signed-of-requires c κs = search needs
 
 -- src/lib.rt:130:5
 give-gains-requires : tie.Need-give-gains-requires
@@ -71,7 +71,7 @@ returns-2 c = let last = c .before .before in
     let key = gave .before .before in
     let number = key .before .before .before in
     let chosen = number .before .before .before in
-    let k = key .signed in
+    let k = key .signed-of in
     let d = job-picked (chosen .before .before .before .args .p .now) (chosen .chosen-job .result) (chosen .chosen-job .ensures .0) (number .before .before .if1 .left) in
     (rw (last .put2 .ensures, cleared .set-field .ensures, gave .give-gains .ensures, number .field-of .ensures) (d .0), rw (number .field-of .ensures, toZ-ofZ w32 (k .result) (record { sfits = k .ok }) ∙ k .ensures, key .before .field-of2 .ensures) (d .1))
 
@@ -85,7 +85,7 @@ pick-turn-spec =
     returns
     field-of-requires
     field-of-requires-2
-    signed-requires
+    signed-of-requires
     give-gains-requires
     set-field-requires
     put-requires-2

@@ -1,13 +1,13 @@
 use native.Mathlib.Omega.{arith}
 use Rattle.words.proofs.Signed.{not-not}
 use mir.Val.{toZ}
 use mir.Syntax.{w32}
 use mathlib.Core.Path.{ap}
 use borrow.Author.Needs.{needs}
-use Rattle.turns.proofs.signed.Statement.{statement}
-use Rattle.turns.proofs.signed.Tie as tie
-use Rattle.turns.proofs.signed.Reads as reads
-use Rattle.turns.proofs.signed.Lts as lts
+use Rattle.words.proofs.signed_of.Statement.{statement}
+use Rattle.words.proofs.signed_of.Tie as tie
+use Rattle.words.proofs.signed_of.Reads as reads
+use Rattle.words.proofs.signed_of.Lts as lts
 
 -- src/lib.rt:35:9
 cast-result : tie.Need-cast-result
@@ -25,5 +25,5 @@ returns c = search needs
 returns-2 : tie.Need-returns-2
 returns-2 c = ap (toZ w32) (not-not 4294967295 (c .before .args .longword) (omega arith))
 
-pub signed-spec : {M : Type 1} → statement M
-signed-spec = tie.close (tie.spec cast-result cast-result-2 returns returns-2)
+pub signed-of-spec : {M : Type 1} → statement M
+signed-of-spec = tie.close (tie.spec cast-result cast-result-2 returns returns-2)
