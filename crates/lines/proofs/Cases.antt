@@ -3,8 +3,8 @@ use mathlib.Core.Path.{_≡_, refl}
 use mathlib.Core.List.{List, [], _∷_}
 use Prim.Native.Nat.{ℕ}
 use lib.ListN.{replicate}
-use Rattle.lines.specs.Digits.{digit, digits, number, numbers}
-use Rattle.lines.specs.Texts.{capital, past, written, written-words, with-words, with-answer}
+use Rattle.digits.specs.Digits.{digit, digits, number, numbers}
+use Rattle.writing.specs.Texts.{capital, past, written, written-words, with-words, with-answer}
 use Rattle.lines.specs.Frames.{Frame, bad, picks, ticks, traps, alone, trapped, called, frame}
 
 abbrev take-100 : List ℕ

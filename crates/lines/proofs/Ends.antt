@@ -10,7 +10,7 @@ use borrow.Author.Tests.{eqb-true, eqb-false, eq-eqb, ne-eqb, ltb-true, ltb-fals
 use lib.Dec.{eqb, ltb}
 use lib.ListN.{length, getD, set, drop, length-drop, drop-of-length-le}
 use lib.Seq.{drop-cons, set-out, sets}
-use Rattle.lines.specs.Digits.{pick}
+use Rattle.digits.specs.Digits.{pick}
 use Rattle.lines.specs.Feeds.{before-feed, line-end}
 
 -- it ends here, further on, or at the end

@@ -1,22 +1,18 @@
 -- Laws of a session line's meaning, one for each way that the reader goes. Assumes nothing.
-use mathlib.Core.Path.{_≡_, refl, sym, ap, _∙_, subst}
+use mathlib.Core.Path.{_≡_, refl, sym, subst}
 use mathlib.Core.Bool.{Bool, true, false}
 use mathlib.Core.Logic.{_≢_}
 use mathlib.Core.List.{List, []}
-use Prim.Native.Nat.{ℕ, zero, suc, _+_, _-_, _/_, _%_, _<_, _≤_}
+use Prim.Native.Nat.{ℕ, _-_, _/_, _%_, _<_, _≤_}
 use native.Mathlib.Omega.{arith}
 use borrow.Author.Tests.{lt-ltb, le-ltb, eq-eqb, ne-eqb, ltb-false}
 use lib.Dec.{ltb, eqb}
 use lib.ListN.{length}
+use Rattle.digits.specs.Digits.{pick, digits, number, numbers}
+use Rattle.digits.proofs.Reader.{length-numbers}
 use Rattle.lines.specs.declared.Line.{Line}
 use Rattle.lines.specs.declared.Line.the-variants.{Bad, Pick, Tick, Trap}
-use Rattle.lines.specs.Digits.{pick, digits, number, numbers}
 use Rattle.lines.specs.Frames.{Frame, bad, picks, ticks, traps, alone, trapped, called, frame, kind-of, name-of, Told}
-
-pub length-numbers : (s : List ℕ) (i w n : ℕ) → length (numbers s i w n) ≡ n
-unfolding numbers
-length-numbers s i w zero = refl
-length-numbers s i w (suc n) = ap suc (length-numbers s (i + w) w n)
 
 -- what is read of one frame is read of an equal one
 pub told-as : (f g : Frame) (r : Line) (a b c d : List ℕ) → f ≡ g → Told g r a b c d → Told f r a b c d

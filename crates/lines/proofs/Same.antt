@@ -11,12 +11,12 @@ use borrow.Author.Tests.{lt-ltb, le-ltb, le-leb, ltb-true, ltb-false}
 use lib.Dec.{ltb}
 use lib.ListN.{length, getD, set, length-set}
 use lib.Seq.{getD-set-same, getD-set-other}
-use Rattle.lines.specs.declared.Read.{Read}
-use Rattle.lines.specs.declared.Read.the-variants.{Number, Nothing}
-use Rattle.lines.specs.Digits.{pick, digit, told, worth, digits, number, read, numbers}
-use Rattle.lines.specs.Texts.{capital, past, written, written-words, with-number, with-words, with-answer}
+use Rattle.digits.specs.declared.Read.{Read}
+use Rattle.digits.specs.declared.Read.the-variants.{Number, Nothing}
+use Rattle.digits.specs.Digits.{pick, digit, told, worth, digits, number, read, numbers}
+use Rattle.writing.specs.Texts.{capital, past, written, written-words, with-number, with-words, with-answer}
 use Rattle.lines.specs.Back.{NumberComesBack, AnswerComesBack}
-use Rattle.lines.proofs.Writer.{length-written}
+use Rattle.writing.proofs.Writer.{length-written}
 
 digit-capital : (d : ℕ) → d < 16 → digit (capital d) ≡ Number d
 unfolding digit capital

@@ -3,9 +3,9 @@ use mathlib.Core.Path.{_≡_}
 use mathlib.Core.List.{List}
 use Prim.Native.Nat.{ℕ, _+_, _*_, _^_, _≤_, _<_}
 use lib.ListN.{length, getD}
-use Rattle.lines.specs.declared.Read.the-variants.{Number}
-use Rattle.lines.specs.Digits.{read, numbers}
-use Rattle.lines.specs.Texts.{with-number, with-answer}
+use Rattle.digits.specs.declared.Read.the-variants.{Number}
+use Rattle.digits.specs.Digits.{read, numbers}
+use Rattle.writing.specs.Texts.{with-number, with-answer}
 
 -- a number of at most eight digits
 abbrev pub NumberComesBack : Type 0

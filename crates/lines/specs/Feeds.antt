@@ -3,7 +3,7 @@ use mathlib.Core.List.{List, [], _∷_}
 use Prim.Native.Nat.{ℕ, suc, _+_}
 use lib.Dec.{eqb}
 use lib.ListN.{drop}
-use Rattle.lines.specs.Digits.{pick}
+use Rattle.digits.specs.Digits.{pick}
 
 -- how many characters stand before the first line feed, all where there is none
 unfoldable pub before-feed : List ℕ → ℕ

@@ -5,9 +5,9 @@ use Prim.Native.Nat.{ℕ, _-_, _/_, _%_}
 use lib.Dec.{ltb, eqb}
 use lib.ListN.{length}
 use lib.Seq.{sets}
+use Rattle.digits.specs.Digits.{pick, digits, number, numbers}
 use Rattle.lines.specs.declared.Line.{Line}
 use Rattle.lines.specs.declared.Line.the-variants.{Bad, Pick, Tick, Trap}
-use Rattle.lines.specs.Digits.{pick, digits, number, numbers}
 
 -- a bad line, a pick, a tick, or a trap by its number with eight registers and a name's bytes
 pub data Frame : Type 0 where

@@ -1,12 +1,12 @@
 use crate::Line;
-use crate::reading::are_digits;
-use crate::reading::number_at;
-use crate::reading::read_bytes;
-use crate::reading::read_words;
+use digits::are_digits;
+use digits::number_at;
+use digits::read_bytes;
+use digits::read_words;
 ghost use mathlib.Core.Path.{_≡_};
 ghost use mathlib.Core.Bool.{true};
 ghost use lib.ListN.{length};
-ghost use Rattle.lines.specs.Digits.{digits};
+ghost use Rattle.digits.specs.Digits.{digits};
 ghost use Rattle.lines.specs.Frames.{frame, trapped, Told};
 
 // The most characters that a line may have.

@@ -10,20 +10,20 @@ const BAD: u32 = 0xFFFF_FFF1;
 
 // A bad line gives its key alone.
 fn write_bad(out: &mut [u8], used: usize) -> usize {
-    lines::write_answer(out, used, &[BAD])
+    writing::write_answer(out, used, &[BAD])
 }
 
 // A pick gives its number and its key.
 fn write_pick(picture: &mut [u32], out: &mut [u8], used: usize) -> usize {
     let picked = manager::pick(picture);
     let answer = [picked.number, words::bits_of(picked.key)];
-    lines::write_answer(out, used, &answer)
+    writing::write_answer(out, used, &answer)
 }
 
 // A tick gives its key.
 fn write_tick(picture: &mut [u32], out: &mut [u8], used: usize) -> usize {
     let answer = [words::bits_of(manager::tick(picture))];
-    lines::write_answer(out, used, &answer)
+    writing::write_answer(out, used, &answer)
 }
 
 // A trap gives its eight registers.
@@ -36,7 +36,7 @@ fn write_trap(
     used: usize,
 ) -> usize {
     manager::call(trap, registers, name, picture);
-    lines::write_answer(out, used, registers)
+    writing::write_answer(out, used, registers)
 }
 
 // Answers a line.

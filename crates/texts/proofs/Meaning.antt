@@ -6,7 +6,7 @@ use mathlib.Core.List.{List, []}
 use Prim.Native.Nat.{ℕ, _/_, _%_, _<_, _≤_}
 use borrow.Author.Tests.{lt-ltb, le-ltb, eq-eqb, ne-eqb}
 use lib.ListN.{length}
-use Rattle.lines.specs.Digits.{digits, numbers}
+use Rattle.digits.specs.Digits.{digits, numbers}
 use Rattle.texts.specs.declared.Count.{Count}
 use Rattle.texts.specs.declared.Count.the-variants.{Of, Bad}
 use Rattle.texts.specs.Fields.{none, text, Bytes, of, nothing, Told}

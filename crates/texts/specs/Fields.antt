@@ -6,9 +6,9 @@ use Prim.Native.Nat.{ℕ, suc, _/_, _%_}
 use lib.Dec.{ltb, eqb}
 use lib.ListN.{length, getD}
 use lib.Seq.{sets}
-use Rattle.lines.specs.declared.Read.{Read}
-use Rattle.lines.specs.declared.Read.the-variants.{Number, Nothing}
-use Rattle.lines.specs.Digits.{pick, digits, numbers, read}
+use Rattle.digits.specs.declared.Read.{Read}
+use Rattle.digits.specs.declared.Read.the-variants.{Number, Nothing}
+use Rattle.digits.specs.Digits.{pick, digits, numbers, read}
 use Rattle.texts.specs.declared.Count.{Count}
 use Rattle.texts.specs.declared.Count.the-variants.{Of, Bad}
 

@@ -1,6 +1,6 @@
 use crate::Asked;
 use crate::Count;
-use lines::Read;
+use digits::Read;
 ghost use mathlib.Core.Path.{_≡_};
 ghost use Prim.Native.Nat.{_≤_};
 ghost use lib.ListN.{length};
@@ -42,7 +42,7 @@ pub fn is_none(field: &[u8]) -> bool
 pub fn is_asked(line: &[u8]) -> bool
     ensures { λ r. ⌜ r ≡ asks (now (line .entry)) ⌝ }
 {
-    let Read::Number(first) = lines::read_number(line, 0, 2) else {
+    let Read::Number(first) = digits::read_number(line, 0, 2) else {
         return false;
     };
     first == ERROR
@@ -56,7 +56,7 @@ fn key_of(field: &[u8]) -> Read
         return Read::Nothing;
     }
     if is_asked(field) {
-        return lines::read_number(field, 2, 8);
+        return digits::read_number(field, 2, 8);
     }
     Read::Nothing
 }
@@ -79,10 +79,10 @@ fn read_text(field: &[u8], text: &mut [u8]) -> Count
     if field.len() % 2 != 0 {
         return Count::Bad;
     }
-    if !lines::are_digits(field, 0, field.len()) {
+    if !digits::are_digits(field, 0, field.len()) {
         return Count::Bad;
     }
-    lines::read_bytes(field, 0, count, text);
+    digits::read_bytes(field, 0, count, text);
     Count::Of(count)
 }
 

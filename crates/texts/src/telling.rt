@@ -4,8 +4,8 @@ use crate::asking;
 // Answers a line that is no trial.
 pub fn write_refusal(out: &mut [u8], used: usize) -> usize {
     let start = pieces::with_room(out, used);
-    let end = lines::write_character(out, start, b'?');
-    lines::write_character(out, end, b'\n')
+    let end = writing::write_character(out, start, b'?');
+    writing::write_character(out, end, b'\n')
 }
 
 // The bytes of a text, two digits each, written out in pieces.
@@ -14,7 +14,7 @@ fn write_bytes(text: &[u8], out: &mut [u8], used: usize) -> usize {
     let mut i = 0;
     while i < text.len() {
         let start = pieces::with_room(out, place);
-        place = lines::write_number(out, start, 2, text[i] as u32);
+        place = writing::write_number(out, start, 2, text[i] as u32);
         i += 1;
     }
     place
@@ -23,7 +23,7 @@ fn write_bytes(text: &[u8], out: &mut [u8], used: usize) -> usize {
 // A text, as a field.
 fn write_text(text: &[u8], out: &mut [u8], used: usize) -> usize {
     if text.len() == 0 {
-        return lines::write_character(out, used, b'-');
+        return writing::write_character(out, used, b'-');
     }
     write_bytes(text, out, used)
 }
@@ -31,10 +31,10 @@ fn write_text(text: &[u8], out: &mut [u8], used: usize) -> usize {
 // Answers with a key and a text.
 fn write_error(key: u32, text: &[u8], out: &mut [u8], used: usize) -> usize {
     let start = pieces::with_room(out, used);
-    let keyed = lines::write_number(out, start, 8, key);
-    let apart = lines::write_character(out, keyed, b' ');
+    let keyed = writing::write_number(out, start, 8, key);
+    let apart = writing::write_character(out, keyed, b' ');
     let end = write_text(text, out, apart);
-    lines::write_character(out, end, b'\n')
+    writing::write_character(out, end, b'\n')
 }
 
 // Asks for the text of a key, and answers with it.

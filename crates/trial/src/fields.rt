@@ -2,7 +2,7 @@ use crate::Call;
 use crate::Count;
 use crate::Trial;
 use crate::longwords;
-use lines::Read;
+use digits::Read;
 ghost use Prim.Native.Nat.{_≤_};
 ghost use lib.ListN.{length};
 ghost use Rattle.trial.specs.Within.{Within, Fitting};
@@ -21,10 +21,10 @@ fn fresh_of(field: &[u8]) -> Call {
     if field.len() != 18 {
         return Call::Bad;
     }
-    let Read::Number(size) = lines::read_number(field, 2, 8) else {
+    let Read::Number(size) = digits::read_number(field, 2, 8) else {
         return Call::Bad;
     };
-    let Read::Number(heap) = lines::read_number(field, 10, 8) else {
+    let Read::Number(heap) = digits::read_number(field, 10, 8) else {
         return Call::Bad;
     };
     Call::Fresh(size, heap)
@@ -38,7 +38,7 @@ fn trap_of(trap: u32, field: &[u8]) -> Call {
     if field.len() % 2 != 0 {
         return Call::Bad;
     }
-    if lines::are_digits(field, 0, field.len()) {
+    if digits::are_digits(field, 0, field.len()) {
         return Call::Trap(trap);
     }
     Call::Bad
@@ -46,7 +46,7 @@ fn trap_of(trap: u32, field: &[u8]) -> Call {
 
 // What a call field asks for. A field of an error text, FE, is none of them.
 fn call_of(field: &[u8]) -> Call {
-    let Read::Number(first) = lines::read_number(field, 0, 2) else {
+    let Read::Number(first) = digits::read_number(field, 0, 2) else {
         return Call::Bad;
     };
     if first < 0xF0 {
@@ -76,10 +76,10 @@ fn read_name(field: &[u8], name: &mut [u8]) -> usize
     if name.len() < count {
         return 0;
     }
-    if !lines::are_digits(field, 2, 2 * count) {
+    if !digits::are_digits(field, 2, 2 * count) {
         return 0;
     }
-    lines::read_bytes(field, 2, count, name);
+    digits::read_bytes(field, 2, count, name);
     count
 }
 
@@ -100,10 +100,10 @@ fn read_registers(field: &[u8], registers: &mut [u32]) -> Count
     if field.len() % 8 != 0 {
         return Count::Bad;
     }
-    if !lines::are_digits(field, 0, field.len()) {
+    if !digits::are_digits(field, 0, field.len()) {
         return Count::Bad;
     }
-    lines::read_words(field, 0, count, registers);
+    digits::read_words(field, 0, count, registers);
     Count::Of(count)
 }
 
@@ -115,7 +115,7 @@ fn times_at(field: &[u8], place: usize) -> usize {
     if field[place] != b'x' {
         return 1;
     }
-    let Read::Number(times) = lines::read_number(field, place + 1, 4) else {
+    let Read::Number(times) = digits::read_number(field, place + 1, 4) else {
         return 0;
     };
     if MOST_TIMES < times {
@@ -144,7 +144,7 @@ fn read_longwords(field: &[u8], picture: &mut [u32]) -> Count
     let mut place = 0;
     let mut count = 0;
     while place < field.len() {
-        let Read::Number(longword) = lines::read_number(field, place, 8) else {
+        let Read::Number(longword) = digits::read_number(field, place, 8) else {
             return Count::Bad;
         };
         if field.len() - place < 8 {

@@ -4,28 +4,28 @@ use crate::longwords;
 // The number of a pick, as a field.
 fn write_pick(answer: Answer, out: &mut [u8], used: usize) -> usize {
     if answer.is_pick {
-        let start = lines::write_character(out, used, b' ');
-        return lines::write_number(out, start, 8, answer.number);
+        let start = writing::write_character(out, used, b' ');
+        return writing::write_number(out, start, 8, answer.number);
     }
     used
 }
 
 // The registers, as a field.
 fn write_registers(registers: &[u32], out: &mut [u8], used: usize) -> usize {
-    let start = lines::write_character(out, used, b' ');
+    let start = writing::write_character(out, used, b' ');
     if registers.len() == 0 {
-        return lines::write_character(out, start, b'-');
+        return writing::write_character(out, start, b'-');
     }
-    lines::write_words(out, start, registers)
+    writing::write_words(out, start, registers)
 }
 
 // One change: what stands before it, its index and what is there now.
 fn write_change(mark: u8, index: usize, longword: u32, out: &mut [u8], used: usize) -> usize {
     let start = pieces::with_room(out, used);
-    let marked = lines::write_character(out, start, mark);
-    let indexed = lines::write_number(out, marked, 4, (index % 65536) as u32);
-    let equated = lines::write_character(out, indexed, b'=');
-    lines::write_number(out, equated, 8, longword)
+    let marked = writing::write_character(out, start, mark);
+    let indexed = writing::write_number(out, marked, 4, (index % 65536) as u32);
+    let equated = writing::write_character(out, indexed, b'=');
+    writing::write_number(out, equated, 8, longword)
 }
 
 // The longwords that changed, as a field.
@@ -44,8 +44,8 @@ fn write_changes(before: &[u32], after: &[u32], out: &mut [u8], used: usize) -> 
     if mark == b',' {
         return place;
     }
-    let start = lines::write_character(out, place, b' ');
-    lines::write_character(out, start, b'-')
+    let start = writing::write_character(out, place, b' ');
+    writing::write_character(out, start, b'-')
 }
 
 // Answers a trial.
@@ -58,9 +58,9 @@ pub fn write_answer(
     used: usize,
 ) -> usize {
     let start = pieces::with_room(out, used);
-    let keyed = lines::write_number(out, start, 8, answer.key);
+    let keyed = writing::write_number(out, start, 8, answer.key);
     let picked = write_pick(answer, out, keyed);
     let listed = write_registers(registers, out, picked);
     let changed = write_changes(before, after, out, listed);
-    lines::write_character(out, changed, b'\n')
+    writing::write_character(out, changed, b'\n')
 }

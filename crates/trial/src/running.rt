@@ -128,7 +128,7 @@ fn take(
             used: end,
         };
     }
-    let next = lines::write_character(line, length, character);
+    let next = writing::write_character(line, length, character);
     Progress {
         length: next,
         used: used,

@@ -2,8 +2,8 @@
 use mathlib.Core.Path.{_≡_, sym, _∙_}
 use mathlib.Core.Bool.{true}
 use lib.ListN.{length}
-use Rattle.lines.specs.Digits.{digits}
-use Rattle.lines.proofs.Reader.{digits-part}
+use Rattle.digits.specs.Digits.{digits}
+use Rattle.digits.proofs.Reader.{digits-part}
 use borrow.Author.Tests.{not-true, not-false}
 use Rattle.lines.specs.Frames.{frame, called}
 use Rattle.lines.proofs.Meaning.{told-as, told-bad, told-pick, told-tick, empty-bad, long-bad, odd-bad, strange-bad, fair-called, pick-alone, pick-left-over, tick-alone, tick-left-over, trap-called}

@@ -1,8 +1,8 @@
 -- `lines::frames::read_trap` meets its contract: one law of the meaning for each way out. Assumes nothing.
 use mathlib.Core.Path.{refl, sym, ap}
+use Rattle.digits.proofs.Reader.{digits-part, length-numbers}
 use Rattle.lines.specs.declared.Line.the-variants.{Trap}
-use Rattle.lines.proofs.Meaning.{told-as, told-bad, length-numbers, trap-short, trap-named, trap-left-over, trap-whole}
-use Rattle.lines.proofs.Reader.{digits-part}
+use Rattle.lines.proofs.Meaning.{told-as, told-bad, trap-short, trap-named, trap-left-over, trap-whole}
 use borrow.Author.Needs.{needs}
 use native.Mathlib.Omega.{arith}
 use Rattle.lines.proofs.frames.read_trap.Statement.{statement}

@@ -2,8 +2,7 @@
 use mathlib.Core.Path.{sym, ap, _∙_}
 use native.Mathlib.Omega.{arith}
 use borrow.Author.Tests.{not-true, not-false}
-use Rattle.lines.proofs.Meaning.{length-numbers}
-use Rattle.lines.proofs.Reader.{digits-part}
+use Rattle.digits.proofs.Reader.{digits-part, length-numbers}
 use Rattle.texts.specs.declared.Count.the-variants.{Of}
 use Rattle.texts.proofs.Meaning.{told-as, told-none, told-nothing, text-none, text-empty, text-long, text-odd, text-strange, text-fair}
 use borrow.Author.Needs.{needs}

@@ -1,5 +1,5 @@
 -- `trial::running::take` meets its contract: the line's length stays within its room. Assumes nothing.
-use Rattle.lines.proofs.Writer.{past-inside}
+use Rattle.writing.proofs.Writer.{past-inside}
 use Rattle.trial.proofs.Parts.{counted}
 use borrow.Author.Needs.{needs}
 use Rattle.trial.proofs.running.take.Statement.{statement}
