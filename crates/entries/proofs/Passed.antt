@@ -1,16 +1,15 @@
 -- The walk over a table, a record at a time.
 use Prim.Native.Nat.{ℕ, _+_, _%_, _≤_, _<_}
-use mathlib.Core.Path.{_≡_, refl, sym, ap, _∙_, subst}
-use mathlib.Core.Bool.{Bool, true, false, _&&_, _||_, not, cond}
-use mathlib.Core.Logic.{⊎-elim, _⊎_, inl, inr}
+use mathlib.Core.Path.{_≡_, refl, sym, ap, _∙_}
+use mathlib.Core.Bool.{Bool, true, false, _&&_, _||_, not}
+use mathlib.Core.Logic.{⊎-elim, _⊎_}
 use mathlib.Core.List.{List}
-use native.Mathlib.Nat.{eq-or-lt-of-le, le-of-suc-le-suc}
-use native.Mathlib.Numerals.{add-one}
+use native.Mathlib.Nat.{eq-or-lt-of-le}
 use native.Mathlib.Omega.{arith}
 use lib.Dec.{leb, eqb}
 use lib.ListN.{length, getD, set, length-set}
 use lib.Seq.{getD-set-same, getD-set-other}
-use borrow.Author.Tests.{eqb-true, eqb-false, eq-eqb, ne-eqb}
+use borrow.Author.Tests.{eqb-true, eqb-false}
 use Rattle.words.specs.Each.{every, one, count}
 use Rattle.words.proofs.Tests.{false-true, fails-right}
 use Rattle.words.proofs.Each.{every-by, every-not, every-next, count-next}
@@ -19,7 +18,6 @@ use Rattle.picture.specs.Records.{number, used}
 use Rattle.picture.specs.Numbers.{tag}
 use Rattle.picture.specs.declared.Table.{Table}
 use Rattle.matching.specs.Match.{first, claims}
-use Rattle.matching.specs.declared.Walked.{Walked}
 use Rattle.matching.specs.declared.Walked.the-variants.{Broken, Counted}
 use Rattle.records.specs.Rules.{tags-differ, tag-once}
 use Rattle.records.proofs.Used.{claims-used}

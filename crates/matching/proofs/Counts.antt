@@ -1,21 +1,21 @@
 -- Where each block of a table's kind is that of exactly one entry, as many such blocks as entries is: each entry has its block.
-use Prim.Native.Nat.{ℕ, zero, suc, _+_, _-_, _*_, _≤_, _<_}
-use mathlib.Core.Path.{_≡_, refl, sym, ap, _∙_, subst}
+use Prim.Native.Nat.{ℕ, _+_, _-_, _*_, _≤_, _<_}
+use mathlib.Core.Path.{_≡_, refl, sym, ap, _∙_}
 use mathlib.Core.Bool.{Bool, true, false, _&&_, _||_, not}
-use mathlib.Core.Logic.{⊎-elim, _⊎_, inl, inr}
+use mathlib.Core.Logic.{inl, inr}
 use mathlib.Core.List.{List, [], _∷_}
 use lib.Dec.{eqb}
 use native.Mathlib.Omega.{arith}
 use borrow.Author.Tests.{eqb-true, eq-eqb}
 use Rattle.words.specs.Each.{every, one, sum, count, all, any, total, In}
-use Rattle.words.proofs.Tests.{both, unless, false-true}
+use Rattle.words.proofs.Tests.{both, false-true}
 use Rattle.words.proofs.Each.{every-at, every-by, all-at, all-by, sum-zero, sum-le, sum-squeeze, sum-same, count-at, swap, total-same}
 use Rattle.picture.specs.Layout.{positions}
 use Rattle.picture.specs.Records.{owner, base}
 use Rattle.picture.specs.declared.Table.{Table}
 use Rattle.picture.specs.Layout.{from, upto}
 use Rattle.blocks.specs.Header.{kind, holder, kind-of}
-use Rattle.blocks.specs.Walk.{starts, blocks}
+use Rattle.blocks.specs.Walk.{blocks}
 use Rattle.blocks.proofs.Starts.{Rising, starts-rising}
 use Rattle.matching.specs.Match.{area-of, claims, pair, claimed, own, housed}
 

@@ -1,24 +1,23 @@
 -- What the test computes is soundness: from either all the rules follow.
-use Prim.Native.Nat.{ℕ, _<_, _≤_}
-use mathlib.Core.Path.{_≡_, refl, sym, ap, _∙_, subst}
-use mathlib.Core.Bool.{Bool, true, false, _&&_, _||_, not, cond}
+use Prim.Native.Nat.{ℕ, _<_}
+use mathlib.Core.Path.{_≡_}
+use mathlib.Core.Bool.{true}
 use mathlib.Core.Logic.{⊎-elim}
 use mathlib.Core.List.{List}
 use native.Mathlib.Omega.{arith}
-use lib.Dec.{leb, eqb}
-use borrow.Author.Tests.{eqb-true, eqb-false, eq-eqb, ne-eqb, leb-true, not-true}
-use Rattle.words.specs.Each.{every, one, count, all, total, In}
-use Rattle.words.proofs.Tests.{both, either, false-true, same-test}
-use Rattle.words.proofs.Each.{every-at, every-by, all-at, all-by}
+use lib.Dec.{leb}
+use borrow.Author.Tests.{eqb-true, eqb-false, ne-eqb, leb-true, not-true}
+use Rattle.words.specs.Each.{all}
+use Rattle.words.proofs.Tests.{both, either, same-test}
+use Rattle.words.proofs.Each.{all-at}
 use Rattle.picture.specs.Layout.{positions, from, upto}
 use Rattle.picture.specs.declared.Table.{Table}
 use Rattle.picture.specs.declared.Table.the-variants.{Jobs, Channels}
-use Rattle.picture.specs.declared.Area.{Area}
 use Rattle.picture.specs.declared.Area.the-variants.{Heap, Transient}
 use Rattle.blocks.specs.Header.{kind, kind-of, job-kind, queue-kind, free}
 use Rattle.blocks.specs.Walk.{blocks}
 use Rattle.matching.specs.Match.{area-of, claimed}
-use Rattle.entries.proofs.Rules.{Entry, Job, Channel, job-is, is-job, channel-is, is-channel}
+use Rattle.entries.proofs.Rules.{Job, Channel, job-is, is-job, channel-is, is-channel}
 use Rattle.walks.proofs.Rules.{Block}
 use Rattle.areas.specs.Rules.{length-whole, kind-known, start-zero, free-blank, queue-room, tiles, untouched, kind-fits}
 use Rattle.sound.specs.Whole.{size-right, zero-right, heap-right, last-within, current-ready}

@@ -1,22 +1,19 @@
 -- A table and its area together: every record and every block is fine and there are as many entries as blocks. That is: they match one to one, and every owner of a block is live.
-use Prim.Native.Nat.{ℕ, _*_, _<_, _≤_}
-use mathlib.Core.Path.{_≡_, refl, sym, ap, _∙_, subst}
-use mathlib.Core.Bool.{Bool, true, false, _&&_, _||_, not, cond}
-use mathlib.Core.Logic.{⊎-elim}
+use Prim.Native.Nat.{ℕ, _<_, _≤_}
+use mathlib.Core.Path.{_≡_, refl, sym}
+use mathlib.Core.Bool.{Bool, true, false, _&&_, _||_, cond}
 use mathlib.Core.List.{List}
 use native.Mathlib.Omega.{arith}
 use lib.Dec.{leb, eqb}
 use borrow.Author.Tests.{eqb-true, eq-eqb}
 use Rattle.words.specs.Each.{every, one, count, all, total, In}
-use Rattle.words.proofs.Tests.{both, either, unless, false-true}
+use Rattle.words.proofs.Tests.{both, unless, false-true}
 use Rattle.words.proofs.Each.{every-at, every-by, all-at, all-by}
-use Rattle.picture.specs.Layout.{positions, nobody, from, upto, heap-base}
-use Rattle.picture.specs.Records.{owner, base, used}
+use Rattle.picture.specs.Layout.{positions, nobody, from, upto}
+use Rattle.picture.specs.Records.{owner, used}
 use Rattle.picture.specs.Numbers.{live}
 use Rattle.picture.specs.declared.Table.{Table}
 use Rattle.picture.specs.declared.Table.the-variants.{Jobs, Channels}
-use Rattle.picture.specs.declared.Area.{Area}
-use Rattle.picture.specs.declared.Area.the-variants.{Heap, Transient}
 use Rattle.blocks.specs.Header.{kind, kind-of, holder}
 use Rattle.blocks.specs.Walk.{blocks}
 use Rattle.blocks.proofs.Starts.{starts-in}
@@ -24,7 +21,7 @@ use Rattle.matching.specs.Match.{area-of, first, claims, claimed, housed}
 use Rattle.matching.specs.Met.{met}
 use Rattle.matching.proofs.Counts.{Own, heirs-claimed, counts-housed, housed-counts}
 use Rattle.matching.proofs.Matched.{Matched, matched}
-use Rattle.matching.proofs.Meeting.{Meeting, met-some, some-met}
+use Rattle.matching.proofs.Meeting.{met-some, some-met}
 use Rattle.records.specs.Rules.{may-be-unowned, owner-live}
 use Rattle.areas.specs.Rules.{holder-live}
 use Rattle.matching.specs.declared.Walked.the-variants.{Broken, Counted}

@@ -1,7 +1,7 @@
 -- The walk over an area's blocks, a block at a time.
 use Prim.Native.Nat.{ℕ, _+_, _-_, _/_, _%_, _≤_, _<_}
 use mathlib.Core.Path.{_≡_, refl, sym, ap, _∙_}
-use mathlib.Core.Bool.{Bool, true, false}
+use mathlib.Core.Bool.{true, false}
 use mathlib.Core.List.{List}
 use native.Mathlib.Omega.{arith}
 use lib.Dec.{leb, eqb}
@@ -14,7 +14,6 @@ use Rattle.areas.specs.Rules.{length-whole, tiles}
 use Rattle.blocks.specs.Walk.{good, next, starts}
 use Rattle.blocks.proofs.Starts.{all-end, all-not, all-more, total-end, total-more}
 use Rattle.walks.specs.Walks.{block-fine, blocks-walked}
-use Rattle.matching.specs.declared.Walked.{Walked}
 use Rattle.matching.specs.declared.Walked.the-variants.{Broken, Counted}
 
 module _ (p : List ℕ) (t : Table) (b e : ℕ) where

@@ -1,18 +1,16 @@
 -- A block is fine: what it says by the block's kind, and that it keeps document 01's rules.
-use Prim.Native.Nat.{ℕ, _≤_}
-use mathlib.Core.Path.{_≡_, refl, sym, _∙_}
-use mathlib.Core.Bool.{Bool, true, false, _&&_, _||_, not, cond}
+use Prim.Native.Nat.{ℕ}
+use mathlib.Core.Path.{_≡_, refl}
+use mathlib.Core.Bool.{Bool, true, false, _&&_, not, cond}
 use mathlib.Core.Logic.{⊎-elim, _⊎_, inl, inr}
 use mathlib.Core.List.{List}
 use native.Mathlib.Omega.{arith}
-use lib.Dec.{leb, eqb}
-use borrow.Author.Tests.{eqb-true, eqb-false, eq-eqb, ne-eqb, leb-true, le-leb, not-true}
-use Rattle.words.proofs.Tests.{both, either, failing, unless, false-true}
-use Rattle.picture.specs.Layout.{nobody}
+use lib.Dec.{eqb}
+use borrow.Author.Tests.{eqb-true, eqb-false, eq-eqb, ne-eqb, leb-true, not-true}
+use Rattle.words.proofs.Tests.{both, failing, unless}
 use Rattle.picture.specs.Numbers.{live}
 use Rattle.picture.specs.declared.Table.{Table}
 use Rattle.picture.specs.declared.Table.the-variants.{Jobs, Channels}
-use Rattle.picture.specs.declared.Area.the-variants.{Heap, Transient}
 use Rattle.blocks.specs.Header.{kind, plain-kind, queue-kind, job-kind, free, holder, start, kind-of}
 use Rattle.matching.specs.Match.{area-of}
 use Rattle.matching.specs.Met.{met}

@@ -1,6 +1,6 @@
 use Rattle.tables.proofs.Within.{mask-before}
 use Rattle.picture.proofs.Records.{used-past, used-is}
-use mathlib.Core.Path.{sym, _∙_}
+use mathlib.Core.Path.{sym}
 use borrow.Author.Needs.{needs}
 use Rattle.tables.proofs.is_used.Statement.{statement}
 use Rattle.tables.proofs.is_used.Tie as tie

@@ -1,7 +1,7 @@
 use Rattle.walks.specs.Walks.{block-fine}
 use Rattle.walks.proofs.Left.{header-within}
 use borrow.Author.Tests.{eq-eqb, ne-eqb, not-true, not-false}
-use mathlib.Core.Path.{_≡_, sym, _∙_}
+use mathlib.Core.Path.{sym, _∙_}
 use native.Mathlib.Omega.{arith}
 use borrow.Author.Needs.{needs}
 use Rattle.walks.proofs.is_block_fine.Statement.{statement}

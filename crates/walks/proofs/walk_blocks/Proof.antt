@@ -1,10 +1,8 @@
 use Rattle.walks.proofs.Left.{Left, fine-within, fine-next, left-first, left-next, left-broken, left-counted}
 use Rattle.blocks.proofs.Walk.{next-up, next-le, next-falls}
-use Rattle.words.specs.Each.{one}
 use borrow.Author.Tests.{not-true, not-false}
-use lib.Dec.{eqb}
-use mathlib.Core.Path.{_≡_, refl, sym, ap, _∙_}
-use Prim.Native.Nat.{ℕ, _-_, _≤_}
+use mathlib.Core.Path.{sym, _∙_}
+use Prim.Native.Nat.{_-_}
 use borrow.Author.Needs.{needs}
 use native.Mathlib.Omega.{arith}
 use Rattle.walks.proofs.walk_blocks.Statement.{statement}
