@@ -121,15 +121,6 @@ pub fn read_number(text: &[u8], place: usize, count: usize) -> Read
     Read::Number(number_at(text, place, count))
 }
 
-// Puts a longword at an index; nothing past the end.
-fn put_word(words: &mut [u32], index: usize, value: u32)
-    ensures { λ _. ⌜ now (words .exit) ≡ set (now (words .entry)) index value ⌝ }
-{
-    if index < words.len() {
-        words[index] = value;
-    }
-}
-
 // Puts a byte at an index; nothing past the end.
 fn put_byte(bytes: &mut [u8], index: usize, value: u8)
     ensures { λ _. ⌜ now (bytes .exit) ≡ set (now (bytes .entry)) index value ⌝ }
@@ -147,7 +138,7 @@ pub fn read_words(text: &[u8], place: usize, count: usize, words: &mut [u32])
     let mut i = place;
     let mut k = 0;
     while k < count {
-        put_word(words, k, number_at(text, i, 8));
+        words::put(words, k, number_at(text, i, 8));
         i += 8;
         k += 1;
     }

@@ -32,8 +32,8 @@ number-at-requires c κs =
     let s = c .before .before .before .before .before in
     (omega arith, rw (d .inv .1) (digits-part (s .args .text .now) (s .args .place) (8 * s .args .count) (8 * d .k) 8 (s .pre) (omega arith)))
 
-put-word-requires : tie.Need-put-word-requires Inv-loop μ-loop
-put-word-requires c κs = search needs
+put-requires : tie.Need-put-requires Inv-loop μ-loop
+put-requires c κs = search needs
 
 add-i : tie.Need-add-i Inv-loop μ-loop
 add-i c = omega (arith, inside (c .before .before .before .before .before))
@@ -49,7 +49,7 @@ loop-again c =
     let p = c .before .before in
     let l = p .before .before .before in
     let d = l .before .loop in
-    (omega arith, omega arith, rw (p .put-word .ensures) (simp length-set (d .inv .2)), d .inv .3 ∙ numbers-more _ _ _ 8 _ _ (l .loop-test .taken) ∙ rw (p .put-word .ensures, p .before .number-at .ensures .0))
+    (omega arith, omega arith, rw (p .put .ensures) (simp length-set (d .inv .2)), d .inv .3 ∙ numbers-more _ _ _ 8 _ _ (l .loop-test .taken) ∙ rw (p .put .ensures, p .before .number-at .ensures .0))
 
 same-length : tie.Need-same-length Inv-loop μ-loop
 same-length c = search needs
@@ -65,7 +65,7 @@ read-words-spec =
     μ-loop
     loop-holds
     number-at-requires
-    put-word-requires
+    put-requires
     add-i
     add-k
     loop-less
