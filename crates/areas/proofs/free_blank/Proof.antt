@@ -6,31 +6,24 @@ use Rattle.areas.proofs.free_blank.Reads as reads
 use Rattle.areas.proofs.free_blank.Lts as lts
 use Rattle.tables.proofs.word_at.Reads as word-at-reads
 
--- src/lib.rt:28:17
 add-word-at : tie.Need-add-word-at
 add-word-at c = search needs
 
--- src/lib.rt:28:6
 word-at-requires : tie.Need-word-at-requires
 word-at-requires c κs = search needs
 
--- src/lib.rt:28:48
 add-word-at-2 : tie.Need-add-word-at-2
 add-word-at-2 c = search needs
 
--- src/lib.rt:28:37
 word-at-requires-2 : tie.Need-word-at-requires-2
 word-at-requires-2 c κs = search needs
 
--- src/lib.rt:28:75
 add-word-at-3 : tie.Need-add-word-at-3
 add-word-at-3 c = search needs
 
--- src/lib.rt:28:64
 word-at-requires-3 : tie.Need-word-at-requires-3
 word-at-requires-3 c κs = search needs
 
--- src/lib.rt:24:1
 returns : tie.Need-returns
 unfolding free-blank
 returns c = rw (c .word-at3 .ensures, c .before .word-at2 .ensures, c .before .before .word-at .ensures)

@@ -9,27 +9,21 @@ use Rattle.areas.proofs.is_untouched.Lts as lts
 use Rattle.blocks.proofs.next_block.Reads as next-block-reads
 use Rattle.words.proofs.word.Reads as word-reads
 
--- src/lib.rt:73:9
 next-block-requires : tie.Need-next-block-requires
 next-block-requires c κs = search needs
 
--- src/lib.rt:74:14
 add-word : tie.Need-add-word
 add-word c = search needs
 
--- src/lib.rt:74:6
 word-requires : tie.Need-word-requires
 word-requires c κs = search needs
 
--- src/lib.rt:74:56
 add-word-2 : tie.Need-add-word-2
 add-word-2 c = let n = next-le (c .before .before .before .args .p .now) (c .before .before .before .args .i) (c .before .before .before .args .e) in let r = c .before .next-block .ensures in omega arith
 
--- src/lib.rt:74:48
 word-requires-2 : tie.Need-word-requires-2
 word-requires-2 c κs = search needs
 
--- src/lib.rt:69:1
 returns : tie.Need-returns
 unfolding untouched
 returns c = rw (c .word2 .ensures, c .before .word .ensures, c .before .before .next-block .ensures)

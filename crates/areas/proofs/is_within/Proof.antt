@@ -6,19 +6,15 @@ use Rattle.areas.proofs.is_within.Reads as reads
 use Rattle.areas.proofs.is_within.Lts as lts
 use Rattle.tables.proofs.word_at.Reads as word-at-reads
 
--- src/lib.rt:52:5
 word-at-requires : tie.Need-word-at-requires
 word-at-requires c κs = search needs
 
--- src/lib.rt:52:5
 cast-result : tie.Need-cast-result
 cast-result c = search needs
 
--- src/lib.rt:52:35
 sub-result : tie.Need-sub-result
 sub-result c = search needs
 
--- src/lib.rt:48:1
 returns : tie.Need-returns
 unfolding tiles
 returns c = rw (c .word-at .ensures)

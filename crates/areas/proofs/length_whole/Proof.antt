@@ -6,11 +6,9 @@ use Rattle.areas.proofs.length_whole.Reads as reads
 use Rattle.areas.proofs.length_whole.Lts as lts
 use Rattle.tables.proofs.word_at.Reads as word-at-reads
 
--- src/lib.rt:19:9
 word-at-requires : tie.Need-word-at-requires
 word-at-requires c κs = search needs
 
--- src/lib.rt:15:1
 returns : tie.Need-returns
 unfolding length-whole
 returns c = rw (c .word-at .ensures)

@@ -11,55 +11,42 @@ use Rattle.picture.proofs.field_of.Reads as field-of-reads
 use Rattle.tree.proofs.tree_of.Reads as tree-of-reads
 use Rattle.words.proofs.put.Reads as put-reads
 
--- src/lib.rt:79:15
 field-of-requires : tie.Need-field-of-requires
 field-of-requires c κs = search needs
 
--- src/lib.rt:80:38
 tree-of-requires : tie.Need-tree-of-requires
 tree-of-requires c κs = search needs
 
--- src/lib.rt:80:23
 next-member-requires : tie.Need-next-member-requires
 next-member-requires c κs = search needs
 
--- src/lib.rt:80:5
 put-requires : tie.Need-put-requires
 put-requires c κs = search needs
 
--- src/lib.rt:81:23
 field-of-requires-2 : tie.Need-field-of-requires-2
 field-of-requires-2 c κs = search needs
 
--- src/lib.rt:81:5
 put-requires-2 : tie.Need-put-requires-2
 put-requires-2 c κs = search needs
 
--- src/lib.rt:82:23
 standing-of-requires : tie.Need-standing-of-requires
 standing-of-requires c κs = search needs
 
--- src/lib.rt:82:5
 put-requires-3 : tie.Need-put-requires-3
 put-requires-3 c κs = search needs
 
--- src/lib.rt:83:23
 room-of-requires : tie.Need-room-of-requires
 room-of-requires c κs = search needs
 
--- src/lib.rt:83:5
 put-requires-4 : tie.Need-put-requires-4
 put-requires-4 c κs = search needs
 
--- src/lib.rt:84:5
 put-requires-5 : tie.Need-put-requires-5
 put-requires-5 c κs = search needs
 
--- src/lib.rt:75:1
 same-length : tie.Need-same-length
 same-length c = search needs
 
--- src/lib.rt:75:1
 returns : tie.Need-returns
 unfolding answered
 returns c = let e = c .before .before in

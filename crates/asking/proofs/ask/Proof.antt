@@ -19,31 +19,24 @@ use Rattle.picture.proofs.job_at.Reads as job-at-reads
 use Rattle.tree.proofs.is_in_tree.Reads as is-in-tree-reads
 use Rattle.words.proofs.word.Reads as word-reads
 
--- src/lib.rt:92:47
 word-requires : tie.Need-word-requires
 word-requires c κs = search needs
 
--- src/lib.rt:92:27
 job-at-requires : tie.Need-job-at-requires
 job-at-requires c κs = search needs
 
--- src/lib.rt:92:22
 enum-known-t : tie.Need-enum-known-t
 enum-known-t c = search needs
 
--- src/lib.rt:93:9
 enum-told : tie.Need-enum-told
 enum-told c = search needs
 
--- src/lib.rt:93:9
 same-length : tie.Need-same-length
 same-length c = search needs
 
--- src/lib.rt:93:9
 same-length-2 : tie.Need-same-length-2
 same-length-2 c = search needs
 
--- src/lib.rt:93:9
 returns : tie.Need-returns
 returns c = let j = c .before .before in
     let s = j .before .before .before .before .before .before in
@@ -63,76 +56,60 @@ found : (c : tie.After-known-told2) → let s = c .before .before .before .befor
 found c = let s = c .before .before .before .before .before .before .before .before .before .before .before .before .before .before .before .before .before in
     job-found (s .args .p .now) (meant (s .args .p .now) (D1 (s .args .d .now))) (c .before .k .given .0 .0) (job-is-at c)
 
--- src/lib.rt:95:53
 word-requires-2 : tie.Need-word-requires-2
 word-requires-2 c κs = search needs
 
--- src/lib.rt:95:37
 number-meant-requires : tie.Need-number-meant-requires
 number-meant-requires c κs = search needs
 
--- src/lib.rt:95:27
 job-at-requires-2 : tie.Need-job-at-requires-2
 job-at-requires-2 c κs = search needs
 
--- src/lib.rt:95:22
 enum-known-k : tie.Need-enum-known-k
 enum-known-k c = search needs
 
--- src/lib.rt:96:9
 enum-told-2 : tie.Need-enum-told-2
 enum-told-2 c = search needs
 
--- src/lib.rt:96:9
 same-length-3 : tie.Need-same-length-3
 same-length-3 c = search needs
 
--- src/lib.rt:96:9
 same-length-4 : tie.Need-same-length-4
 same-length-4 c = search needs
 
--- src/lib.rt:96:9
 returns-2 : tie.Need-returns-2
 returns-2 c = let j = c .before .before in
     let t = j .before .before .before .before .before in
     let s = t .before .before .before .before .before .before .before .before .before in
     meets-refuse _ _ _ _ (ask-no-job (s .args .p .now) (s .args .d .now) (t .before .t .given .0 .0) (top-at t) (rw (j .before .number-meant .ensures, j .before .before .word2 .ensures) at (sym (j .job-at2 .ensures) ∙ c .enum-told2 .given .1)))
 
--- src/lib.rt:98:9
 is-in-tree-requires : tie.Need-is-in-tree-requires
 is-in-tree-requires c κs = let l = found (c .before) .within in omega arith
 
--- src/lib.rt:99:9
 same-length-5 : tie.Need-same-length-5
 same-length-5 c = search needs
 
--- src/lib.rt:99:9
 same-length-6 : tie.Need-same-length-6
 same-length-6 c = search needs
 
--- src/lib.rt:99:9
 returns-3 : tie.Need-returns-3
 returns-3 c = let k = c .before .before .before in
     let t = k .before .before .before .before .before .before .before .before in
     let s = t .before .before .before .before .before .before .before .before .before in
     meets-refuse _ _ _ _ (ask-outside (s .args .p .now) (s .args .d .now) (t .before .t .given .0 .0) (k .before .k .given .0 .0) (top-at t) (job-is-at k) (sym (c .before .is-in-tree .ensures) ∙ not-true _ (c .if1 .taken)))
 
--- src/lib.rt:101:5
 answer-requires : tie.Need-answer-requires
 answer-requires c κs = let k = c .before .before .before .before .before in
     let s = k .before .before .before .before .before .before .before .before .before .before .before .before .before .before .before .before .before in
     let f = found k in
     (f .within, (priority-within (s .args .p .now) (k .before .k .given .0 .0) (s .pre) (f .used), base-within (s .args .p .now) (k .before .k .given .0 .0) (s .pre) (f .used)))
 
--- src/lib.rt:88:1
 same-length-7 : tie.Need-same-length-7
 same-length-7 c = search needs
 
--- src/lib.rt:88:1
 same-length-8 : tie.Need-same-length-8
 same-length-8 c = search needs
 
--- src/lib.rt:88:1
 returns-4 : tie.Need-returns-4
 returns-4 c = let a = c .before .before in
     let e = a .before .before .before in

@@ -7,15 +7,12 @@ use Rattle.asking.proofs.is_nearer.Lts as lts
 use Rattle.picture.proofs.field_of.Reads as field-of-reads
 use Rattle.words.proofs.is_set.Reads as is-set-reads
 
--- src/lib.rt:34:15
 field-of-requires : tie.Need-field-of-requires
 field-of-requires c κs = search needs
 
--- src/lib.rt:35:5
 is-set-requires : tie.Need-is-set-requires
 is-set-requires c κs = search needs
 
--- src/lib.rt:30:1
 returns : tie.Need-returns
 unfolding nearer
 returns c = rw (c .is-set .ensures, c .before .field-of .ensures)

@@ -18,28 +18,22 @@ Inv-loop p mask tag n₀ k₀ n k = (k ≤ 32) × (n ≡ next-below k p mask tag
 abbrev μ-loop : tie.MeasureT-loop
 μ-loop p mask tag n₀ k₀ n k = 32 - k
 
--- src/lib.rt:43:5
 loop-holds : tie.Need-loop-holds Inv-loop μ-loop
 unfolding next-below
 loop-holds c = (omega arith, refl)
 
--- src/lib.rt:44:12
 is-nearer-requires : tie.Need-is-nearer-requires Inv-loop μ-loop
 is-nearer-requires c κs = search needs
 
--- src/lib.rt:45:13
 field-of-requires : tie.Need-field-of-requires Inv-loop μ-loop
 field-of-requires c κs = search needs
 
--- src/lib.rt:43:9
 add-k : tie.Need-add-k Inv-loop μ-loop
 add-k c = search needs
 
--- src/lib.rt:43:5
 loop-less : tie.Need-loop-less Inv-loop μ-loop
 loop-less c = search needs
 
--- src/lib.rt:43:5
 loop-again : tie.Need-loop-again Inv-loop μ-loop
 loop-again c = let d = c .before in
     let i = d .before .before .loop .inv in (
@@ -50,7 +44,6 @@ loop-again c = let d = c .before in
           (c .if1 .came),
     )
 
--- src/lib.rt:39:1
 returns : tie.Need-returns Inv-loop μ-loop
 unfolding next-member
 returns c = let e : c .before .loop .k ≡ 32 = omega arith in c .before .loop .inv .1 ∙ rw e

@@ -7,20 +7,16 @@ use Rattle.asking.proofs.room_of.Reads as reads
 use Rattle.asking.proofs.room_of.Lts as lts
 use Rattle.picture.proofs.field_of.Reads as field-of-reads
 
--- src/lib.rt:69:9
 returns : tie.Need-returns
 unfolding room
 returns c = rw (eq-eqb _ _ (c .if1 .taken))
 
--- src/lib.rt:71:5
 field-of-requires : tie.Need-field-of-requires
 field-of-requires c κs = search needs
 
--- src/lib.rt:71:5
 add-result : tie.Need-add-result
 add-result c = search needs
 
--- src/lib.rt:64:1
 returns-2 : tie.Need-returns-2
 unfolding room
 returns-2 c = rw (ne-eqb _ _ (c .before .if1 .left), c .field-of .ensures)

@@ -9,24 +9,19 @@ use Rattle.asking.proofs.standing_of.Reads as reads
 use Rattle.asking.proofs.standing_of.Lts as lts
 use Rattle.picture.proofs.field_of.Reads as field-of-reads
 
--- src/lib.rt:56:9
 field-of-requires : tie.Need-field-of-requires
 field-of-requires c κs = search needs
 
--- src/lib.rt:57:8
 field-of-requires-2 : tie.Need-field-of-requires-2
 field-of-requires-2 c κs = search needs
 
--- src/lib.rt:58:9
 returns : tie.Need-returns
 unfolding standing
 returns c = rw (eq-eqb _ _ (sym (c .before .field-of2 .ensures) ∙ c .if1 .taken), c .before .before .field-of .ensures) (omega arith)
 
--- src/lib.rt:60:5
 add-result : tie.Need-add-result
 add-result c = search needs
 
--- src/lib.rt:52:1
 returns-2 : tie.Need-returns-2
 unfolding standing
 returns-2 c = rw (ne-eqb _ _ (rw (c .before .field-of2 .ensures) at (c .if1 .left)), c .before .before .field-of .ensures)

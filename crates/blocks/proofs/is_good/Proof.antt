@@ -9,36 +9,29 @@ use Rattle.blocks.proofs.is_good.Reads as reads
 use Rattle.blocks.proofs.is_good.Lts as lts
 use Rattle.words.proofs.word.Reads as word-reads
 
--- src/lib.rt:40:16
 word-requires : tie.Need-word-requires
 word-requires c κs = search needs
 
--- src/lib.rt:40:16
 cast-size : tie.Need-cast-size
 cast-size c = search needs
 
--- src/lib.rt:42:9
 returns : tie.Need-returns
 unfolding good
 returns c = simp (← c .before .word .ensures, ne-eqb _ _ (c .if1 .taken))
 
--- src/lib.rt:45:9
 returns-2 : tie.Need-returns-2
 unfolding good
 returns-2 c = simp (← c .before .before .word .ensures, eq-eqb _ _ (c .before .if1 .left), lt-leb _ _ (c .if2 .taken))
 
--- src/lib.rt:48:9
 returns-3 : tie.Need-returns-3
 unfolding good
 returns-3 c =
     let w = c .before .before .before in
     simp (← w .word .ensures, eq-eqb _ _ (c .before .before .if1 .left), le-leb _ _ (c .before .if2 .left), lt-leb (w .word .result / 4) (w .before .before .args .e - w .before .before .args .i) (omega arith))
 
--- src/lib.rt:50:17
 sub-result : tie.Need-sub-result
 sub-result c = search needs
 
--- src/lib.rt:37:1
 returns-4 : tie.Need-returns-4
 unfolding good
 returns-4 c = simp (← c .before .before .before .word .ensures, eq-eqb _ _ (c .before .before .if1 .left), le-leb _ _ (c .before .if2 .left))

@@ -9,29 +9,23 @@ use Rattle.blocks.proofs.next_block.Lts as lts
 use Rattle.blocks.proofs.is_good.Reads as is-good-reads
 use Rattle.words.proofs.word.Reads as word-reads
 
--- src/lib.rt:57:8
 is-good-requires : tie.Need-is-good-requires
 is-good-requires c κs = search needs
 
--- src/lib.rt:58:20
 word-requires : tie.Need-word-requires
 word-requires c κs = search needs
 
--- src/lib.rt:58:20
 cast-result : tie.Need-cast-result
 cast-result c = search needs
 
--- src/lib.rt:58:16
 add-result : tie.Need-add-result
 add-result c =
     let g = is-good _ _ _ (sym (c .before .before .is-good .ensures) ∙ c .before .if1 .taken) in
     omega arith
 
--- src/lib.rt:58:9
 returns : tie.Need-returns
 returns c = rw (next-good _ _ _ (sym (c .before .before .is-good .ensures) ∙ c .before .if1 .taken), c .word .ensures)
 
--- src/lib.rt:54:1
 returns-2 : tie.Need-returns-2
 returns-2 c = sym (next-bad _ _ _ (sym (c .before .is-good .ensures) ∙ c .if1 .left))
 

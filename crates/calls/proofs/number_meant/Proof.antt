@@ -7,16 +7,13 @@ use Rattle.calls.proofs.number_meant.Reads as reads
 use Rattle.calls.proofs.number_meant.Lts as lts
 use Rattle.calls.proofs.caller_of.Reads as caller-of-reads
 
--- src/lib.rt:31:26
 caller-of-requires : tie.Need-caller-of-requires
 caller-of-requires c κs = search needs
 
--- src/lib.rt:31:9
 returns : tie.Need-returns
 unfolding meant
 returns c = rw (le-leb _ _ (c .before .if1 .taken), c .caller-of .ensures)
 
--- src/lib.rt:27:1
 returns-2 : tie.Need-returns-2
 unfolding meant
 returns-2 c = rw (lt-leb _ _ (c .if1 .left))

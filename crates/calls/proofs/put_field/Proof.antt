@@ -6,23 +6,18 @@ use Rattle.calls.proofs.put_field.Lts as lts
 use Rattle.picture.proofs.slot_of.Reads as slot-of-reads
 use Rattle.words.proofs.put.Reads as put-reads
 
--- src/lib.rt:41:19
 slot-of-requires : tie.Need-slot-of-requires
 slot-of-requires c κs = search needs
 
--- src/lib.rt:41:19
 add-put : tie.Need-add-put
 add-put c = search needs
 
--- src/lib.rt:41:5
 put-requires : tie.Need-put-requires
 put-requires c κs = search needs
 
--- src/lib.rt:37:1
 same-length : tie.Need-same-length
 same-length c = search needs
 
--- src/lib.rt:37:1
 returns : tie.Need-returns
 returns c = rw (c .before .before .put .ensures, c .before .before .before .slot-of .ensures .0)
 

@@ -6,15 +6,12 @@ use Rattle.channels.proofs.channel_named.Lts as lts
 use Rattle.picture.proofs.channel_at.Reads as channel-at-reads
 use Rattle.words.proofs.word.Reads as word-reads
 
--- src/lib.rt:31:42
 word-requires : tie.Need-word-requires
 word-requires c κs = search needs
 
--- src/lib.rt:31:5
 channel-at-requires : tie.Need-channel-at-requires
 channel-at-requires c κs = search needs
 
--- src/lib.rt:28:1
 returns : tie.Need-returns
 returns c = rw (c .channel-at .ensures, c .before .word .ensures)
 

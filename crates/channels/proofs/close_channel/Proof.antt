@@ -20,45 +20,35 @@ use Rattle.channels.proofs.remove_channel.Reads as remove-channel-reads
 found : (c : tie.After-known-told) → Named (c .before .before .before .before .before .before .before .before .args .p .now) (word (c .before .before .before .before .before .before .before .before .args .d .now) 4) (c .before .k .given .0 .0)
 found c = channel-found _ _ _ (sym (c .before .before .before .channel-named .ensures) ∙ c .before .k .given .1)
 
--- src/lib.rt:71:31
 channel-named-requires : tie.Need-channel-named-requires
 channel-named-requires c κs = search needs
 
--- src/lib.rt:71:26
 enum-known-k : tie.Need-enum-known-k
 enum-known-k c = search needs
 
--- src/lib.rt:72:9
 enum-told : tie.Need-enum-told
 enum-told c = search needs
 
--- src/lib.rt:72:9
 same-length : tie.Need-same-length
 same-length c = search needs
 
--- src/lib.rt:72:9
 same-length-2 : tie.Need-same-length-2
 same-length-2 c = search needs
 
--- src/lib.rt:72:9
 returns : tie.Need-returns
 unfolding close-channel
 returns c = meets-refuse _ _ _ _ (rw (channel-dead _ _ (sym (c .before .before .channel-named .ensures) ∙ c .enum-told .given .1)))
 
--- src/lib.rt:74:5
 remove-channel-requires : tie.Need-remove-channel-requires
 remove-channel-requires c κs = let f = c .before in let s = f .before .before .before .before .before .before .before .before in
     (found f .below, areas-lie-in-a-sound-picture (s .args .p .now) (s .pre) Heap .small)
 
--- src/lib.rt:67:1
 same-length-3 : tie.Need-same-length-3
 same-length-3 c = search needs
 
--- src/lib.rt:67:1
 same-length-4 : tie.Need-same-length-4
 same-length-4 c = search needs
 
--- src/lib.rt:67:1
 returns-2 : tie.Need-returns-2
 unfolding close-channel
 returns-2 c = let r = c .before .before in let f = found (r .before .before) in

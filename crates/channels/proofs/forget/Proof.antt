@@ -16,43 +16,33 @@ use Rattle.words.proofs.clear.Reads as clear-reads
 use Rattle.words.proofs.put.Reads as put-reads
 use Rattle.words.proofs.word.Reads as word-reads
 
--- src/lib.rt:93:9
 mask-of-requires : tie.Need-mask-of-requires
 mask-of-requires c κs = search needs
 
--- src/lib.rt:94:33
 word-requires : tie.Need-word-requires
 word-requires c κs = search needs
 
--- src/lib.rt:94:9
 clear-bit-requires : tie.Need-clear-bit-requires
 clear-bit-requires c = omega (arith, c .before .before .before .before .pre, positions-within (c .before .before .before .before .args .t))
 
--- src/lib.rt:95:9
 slot-of-requires : tie.Need-slot-of-requires
 slot-of-requires c κs = search needs
 
--- src/lib.rt:96:34
 width-of-requires : tie.Need-width-of-requires
 width-of-requires c κs = search needs
 
--- src/lib.rt:96:27
 add-clear : tie.Need-add-clear
 add-clear c = search needs
 
--- src/lib.rt:96:5
 clear-requires : tie.Need-clear-requires
 clear-requires c κs = search needs
 
--- src/lib.rt:97:5
 put-requires : tie.Need-put-requires
 put-requires c κs = search needs
 
--- src/lib.rt:89:1
 same-length : tie.Need-same-length
 same-length c = search needs
 
--- src/lib.rt:89:1
 returns : tie.Need-returns
 unfolding forgotten
 returns c = let d = c .before .before in let e = d .before .before .before .before in let w = e .before in let s = w .before .before in let b = s .before in

@@ -13,15 +13,12 @@ use Rattle.channels.proofs.is_immediate.Lts as lts
 use Rattle.words.proofs.low_half.Reads as low-half-reads
 use Rattle.words.proofs.word.Reads as word-reads
 
--- src/lib.rt:27:21
 word-requires : tie.Need-word-requires
 word-requires c κs = search needs
 
--- src/lib.rt:27:5
 low-half-requires : tie.Need-low-half-requires
 low-half-requires c κs = search needs
 
--- src/lib.rt:24:1
 returns : tie.Need-returns
 unfolding immediate
 returns c = rw (c .low-half .ensures, c .before .word .ensures) (low-half-zero (word (c .before .before .before .args .d .now) 3 % 65536) (omega arith))

@@ -24,80 +24,62 @@ found c = channel-found _ _ _ (sym (c .before .before .before .channel-named .en
 asked : (c : tie.After-queue-at) → c .queue-at .result ≡ queue-of (c .before .before .before .before .before .before .before .before .before .before .before .before .before .args .p .now) (position (word (c .before .before .before .before .before .before .before .before .before .before .before .before .before .args .d .now) 4))
 asked c = c .queue-at .ensures .0 ∙ ap (queue-of (c .before .before .before .before .before .before .before .before .before .before .before .before .before .args .p .now)) (sym (found (c .before .before .before .before .before) .place))
 
--- src/lib.rt:82:31
 channel-named-requires : tie.Need-channel-named-requires
 channel-named-requires c κs = search needs
 
--- src/lib.rt:82:26
 enum-known-k : tie.Need-enum-known-k
 enum-known-k c = search needs
 
--- src/lib.rt:83:9
 enum-told : tie.Need-enum-told
 enum-told c = search needs
 
--- src/lib.rt:83:9
 same-length : tie.Need-same-length
 same-length c = search needs
 
--- src/lib.rt:83:9
 same-length-2 : tie.Need-same-length-2
 same-length-2 c = search needs
 
--- src/lib.rt:83:9
 returns : tie.Need-returns
 unfolding pending
 returns c = meets-refuse _ _ _ _ (rw (channel-dead _ _ (sym (c .before .before .channel-named .ensures) ∙ c .enum-told .given .1)))
 
--- src/lib.rt:85:9
 is-immediate-requires : tie.Need-is-immediate-requires
 is-immediate-requires c κs = search needs
 
--- src/lib.rt:86:9
 same-length-3 : tie.Need-same-length-3
 same-length-3 c = search needs
 
--- src/lib.rt:86:9
 same-length-4 : tie.Need-same-length-4
 same-length-4 c = search needs
 
--- src/lib.rt:86:9
 returns-2 : tie.Need-returns-2
 unfolding pending
 returns-2 c = let a = c .before in let f = found (a .before .before) in
     meets-refuse _ _ _ _ (rw (f .lives, sym (a .is-immediate .ensures) ∙ not-true _ (c .if1 .taken)))
 
--- src/lib.rt:88:31
 queue-at-requires : tie.Need-queue-at-requires
 queue-at-requires c κs = found (c .before .before .before .before) .below
 
--- src/lib.rt:88:9
 is-waiting-requires : tie.Need-is-waiting-requires
 is-waiting-requires c κs = search needs
 
--- src/lib.rt:89:9
 same-length-5 : tie.Need-same-length-5
 same-length-5 c = search needs
 
--- src/lib.rt:89:9
 same-length-6 : tie.Need-same-length-6
 same-length-6 c = search needs
 
--- src/lib.rt:89:9
 returns-3 : tie.Need-returns-3
 unfolding pending
 returns-3 c = let w = c .before in let q = w .before in let e = q .before .before in let a = e .before in let f = found (a .before .before) in
     meets-refuse _ _ _ _ (rw (f .lives, sym (a .is-immediate .ensures) ∙ not-false _ (e .if1 .left), rw (asked q) at (sym (w .is-waiting .ensures) ∙ not-true _ (c .if2 .taken))))
 
--- src/lib.rt:79:1
 same-length-7 : tie.Need-same-length-7
 same-length-7 c = search needs
 
--- src/lib.rt:79:1
 same-length-8 : tie.Need-same-length-8
 same-length-8 c = search needs
 
--- src/lib.rt:79:1
 returns-4 : tie.Need-returns-4
 unfolding pending
 returns-4 c = let w = c .before in let q = w .before in let e = q .before .before in let a = e .before in let f = found (a .before .before) in

@@ -10,31 +10,24 @@ use Rattle.freeing.proofs.sweep.Reads as sweep-reads
 use Rattle.picture.proofs.area_from.Reads as area-from-reads
 use Rattle.picture.proofs.area_upto.Reads as area-upto-reads
 
--- src/lib.rt:105:9
 queue-at-requires : tie.Need-queue-at-requires
 queue-at-requires c κs = search needs
 
--- src/lib.rt:106:9
 area-from-requires : tie.Need-area-from-requires
 area-from-requires c κs = search needs
 
--- src/lib.rt:107:9
 area-upto-requires : tie.Need-area-upto-requires
 area-upto-requires c κs = search needs
 
--- src/lib.rt:108:5
 sweep-requires : tie.Need-sweep-requires
 sweep-requires c κs = search needs
 
--- src/lib.rt:109:5
 forget-requires : tie.Need-forget-requires
 forget-requires c κs = search needs
 
--- src/lib.rt:101:1
 same-length : tie.Need-same-length
 same-length c = search needs
 
--- src/lib.rt:101:1
 returns : tie.Need-returns
 unfolding closed
 returns c = let d = c .before .before in let e = d .before .before .before .before in let u = e .before .before in

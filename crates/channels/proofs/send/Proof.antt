@@ -28,90 +28,70 @@ found c = channel-found _ _ _ (sym (c .before .before .before .channel-named .en
 asked : (c : tie.After-queue-at) → c .queue-at .result ≡ queue-of (c .before .before .before .before .before .before .before .before .before .before .before .before .before .args .p .now) (position (word (c .before .before .before .before .before .before .before .before .before .before .before .before .before .args .d .now) 4))
 asked c = c .queue-at .ensures .0 ∙ ap (queue-of (c .before .before .before .before .before .before .before .before .before .before .before .before .before .args .p .now)) (sym (found (c .before .before .before .before .before) .place))
 
--- src/lib.rt:119:31
 channel-named-requires : tie.Need-channel-named-requires
 channel-named-requires c κs = search needs
 
--- src/lib.rt:119:26
 enum-known-k : tie.Need-enum-known-k
 enum-known-k c = search needs
 
--- src/lib.rt:120:9
 enum-told : tie.Need-enum-told
 enum-told c = search needs
 
--- src/lib.rt:120:9
 same-length : tie.Need-same-length
 same-length c = search needs
 
--- src/lib.rt:120:9
 same-length-2 : tie.Need-same-length-2
 same-length-2 c = search needs
 
--- src/lib.rt:120:9
 returns : tie.Need-returns
 unfolding send
 returns c = meets-refuse _ _ _ _ (rw (channel-dead _ _ (sym (c .before .before .channel-named .ensures) ∙ c .enum-told .given .1)))
 
--- src/lib.rt:122:9
 is-immediate-requires : tie.Need-is-immediate-requires
 is-immediate-requires c κs = search needs
 
--- src/lib.rt:123:9
 same-length-3 : tie.Need-same-length-3
 same-length-3 c = search needs
 
--- src/lib.rt:123:9
 same-length-4 : tie.Need-same-length-4
 same-length-4 c = search needs
 
--- src/lib.rt:123:9
 returns-2 : tie.Need-returns-2
 unfolding send
 returns-2 c = let a = c .before in let f = found (a .before .before) in
     meets-refuse _ _ _ _ (rw (f .lives, sym (a .is-immediate .ensures) ∙ not-true _ (c .if1 .taken)))
 
--- src/lib.rt:125:9
 queue-at-requires : tie.Need-queue-at-requires
 queue-at-requires c κs = found (c .before .before .before .before) .below
 
--- src/lib.rt:126:8
 is-full-requires : tie.Need-is-full-requires
 is-full-requires c κs = search needs
 
--- src/lib.rt:127:9
 same-length-5 : tie.Need-same-length-5
 same-length-5 c = search needs
 
--- src/lib.rt:127:9
 same-length-6 : tie.Need-same-length-6
 same-length-6 c = search needs
 
--- src/lib.rt:127:9
 returns-3 : tie.Need-returns-3
 unfolding send
 returns-3 c = let w = c .before in let q = w .before .before in let e = q .before .before in let a = e .before in let f = found (a .before .before) in
     meets-refuse _ _ _ _ (rw (f .lives, sym (a .is-immediate .ensures) ∙ not-false _ (e .if1 .left), rw (asked q) at (sym (w .is-full .ensures) ∙ c .if2 .taken)))
 
--- src/lib.rt:129:30
 word-requires : tie.Need-word-requires
 word-requires c κs = search needs
 
--- src/lib.rt:129:5
 add-newest-requires : tie.Need-add-newest-requires
 add-newest-requires c κs = let x = c .before .before .before in let w = x .before in let q = w .before .before in let g = q .before .before .before .before .before in
     let s = g .before .before .before .before .before .before .before .before in
     ((omega (arith, q .queue-at .ensures .1), omega arith), (subst (Ring (s .args .p .now)) (sym (asked q)) (live-queue (s .args .p .now) _ (s .pre) (found g .lives) .ring), sym (w .is-full .ensures) ∙ x .if2 .left))
 
--- src/lib.rt:115:1
 same-length-7 : tie.Need-same-length-7
 same-length-7 c = search needs
 
--- src/lib.rt:115:1
 same-length-8 : tie.Need-same-length-8
 same-length-8 c = search needs
 
--- src/lib.rt:115:1
 returns-4 : tie.Need-returns-4
 unfolding send
 returns-4 c = let t = c .before .before in let o = t .before in let x = o .before .before .before in let w = x .before in let q = w .before .before in let e = q .before .before in let a = e .before in let f = found (a .before .before) in

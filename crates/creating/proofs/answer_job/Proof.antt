@@ -7,23 +7,18 @@ use Rattle.creating.proofs.answer_job.Lts as lts
 use Rattle.rooms.proofs.first_byte.Reads as first-byte-reads
 use Rattle.words.proofs.put.Reads as put-reads
 
--- src/lib.rt:56:5
 put-requires : tie.Need-put-requires
 put-requires c κs = search needs
 
--- src/lib.rt:57:16
 first-byte-requires : tie.Need-first-byte-requires
 first-byte-requires c κs = search needs
 
--- src/lib.rt:57:5
 put-requires-2 : tie.Need-put-requires-2
 put-requires-2 c κs = search needs
 
--- src/lib.rt:52:1
 same-length : tie.Need-same-length
 same-length c = search needs
 
--- src/lib.rt:52:1
 returns : tie.Need-returns
 unfolding job-registers
 returns c = rw (c .before .before .put2 .ensures, c .before .before .before .first-byte .ensures, c .before .before .before .before .before .before .before .put .ensures)

@@ -22,134 +22,102 @@ use Rattle.rooms.proofs.header_byte.Reads as header-byte-reads
 use Rattle.rooms.proofs.place_in.Reads as place-in-reads
 use Rattle.words.proofs.word.Reads as word-reads
 
--- src/lib.rt:65:46
 word-requires : tie.Need-word-requires
 word-requires c κs = search needs
 
--- src/lib.rt:65:33
 owner-for-requires : tie.Need-owner-for-requires
 owner-for-requires c κs = search needs
 
--- src/lib.rt:65:24
 enum-known-owner : tie.Need-enum-known-owner
 enum-known-owner c = search needs
 
--- src/lib.rt:66:9
 enum-told : tie.Need-enum-told
 enum-told c = search needs
 
--- src/lib.rt:66:9
 same-length : tie.Need-same-length
 same-length c = search needs
 
--- src/lib.rt:66:9
 same-length-2 : tie.Need-same-length-2
 same-length-2 c = search needs
 
--- src/lib.rt:66:9
 returns : tie.Need-returns
 returns c = meets-refuse _ _ _ _ (create-dead _ _ (owner-dead _ _ (rw (c .before .before .before .word .ensures) at (sym (c .before .before .owner-for .ensures) ∙ c .enum-told .given .1))))
 
--- src/lib.rt:68:9
 word-requires-2 : tie.Need-word-requires-2
 word-requires-2 c κs = search needs
 
--- src/lib.rt:70:9
 same-length-3 : tie.Need-same-length-3
 same-length-3 c = search needs
 
--- src/lib.rt:70:9
 same-length-4 : tie.Need-same-length-4
 same-length-4 c = search needs
 
--- src/lib.rt:70:9
 returns-2 : tie.Need-returns-2
 returns-2 c = let o = owner-of _ _ _ (rw (c .before .before .before .before .before .before .before .word .ensures) at (sym (c .before .before .before .before .before .before .owner-for .ensures) ∙ c .before .before .before .before .owner .given .1)) in
     meets-refuse _ _ _ _ (create-bad _ _ (o .0) (rw (c .before .word2 .ensures) at (c .if1 .taken)))
 
--- src/lib.rt:72:9
 free-position-requires : tie.Need-free-position-requires
 free-position-requires c κs = search needs
 
--- src/lib.rt:74:9
 same-length-5 : tie.Need-same-length-5
 same-length-5 c = search needs
 
--- src/lib.rt:74:9
 same-length-6 : tie.Need-same-length-6
 same-length-6 c = search needs
 
--- src/lib.rt:74:9
 returns-3 : tie.Need-returns-3
 returns-3 c = let o = owner-of _ _ _ (rw (c .before .before .before .before .before .before .before .before .before .before .word .ensures) at (sym (c .before .before .before .before .before .before .before .before .before .owner-for .ensures) ∙ c .before .before .before .before .before .before .before .owner .given .1)) in
     meets-refuse _ _ _ _ (create-no-position _ _ (o .0) (rw (c .before .before .before .before .word2 .ensures) at (c .before .before .before .if1 .left)) (no-position _ Jobs (rw (c .before .free-position .ensures .0) at (c .if2 .taken))))
 
--- src/lib.rt:76:24
 last-of-requires : tie.Need-last-of-requires
 last-of-requires c κs = search needs
 
--- src/lib.rt:76:9
 word-requires-3 : tie.Need-word-requires-3
 word-requires-3 c κs = search needs
 
--- src/lib.rt:78:9
 same-length-7 : tie.Need-same-length-7
 same-length-7 c = search needs
 
--- src/lib.rt:78:9
 same-length-8 : tie.Need-same-length-8
 same-length-8 c = search needs
 
--- src/lib.rt:78:9
 returns-4 : tie.Need-returns-4
 returns-4 c = let o = owner-of _ _ _ (rw (c .before .before .before .before .before .before .before .before .before .before .before .before .before .before .word .ensures) at (sym (c .before .before .before .before .before .before .before .before .before .before .before .before .before .owner-for .ensures) ∙ c .before .before .before .before .before .before .before .before .before .before .before .owner .given .1)) in
     meets-refuse _ _ _ _ (create-no-tag _ _ (o .0) (rw (c .before .before .before .before .before .before .before .before .word2 .ensures) at (c .before .before .before .before .before .before .before .if1 .left)) (position-free _ Jobs (rw (c .before .before .before .before .before .free-position .ensures .0) at (c .before .before .before .before .if2 .left))) (no-tag _ Jobs (rw (c .before .word3 .ensures, c .before .before .last-of .ensures) at (c .if3 .taken))))
 
--- src/lib.rt:80:38
 word-requires-4 : tie.Need-word-requires-4
 word-requires-4 c κs = search needs
 
--- src/lib.rt:80:38
 cast-block-length : tie.Need-cast-block-length
 cast-block-length c = search needs
 
--- src/lib.rt:80:59
 cast-block-length-2 : tie.Need-cast-block-length-2
 cast-block-length-2 c = search needs
 
--- src/lib.rt:80:38
 add-block-length : tie.Need-add-block-length
 add-block-length c = search needs
 
--- src/lib.rt:80:9
 block-length-requires : tie.Need-block-length-requires
 block-length-requires c κs = search needs
 
--- src/lib.rt:81:9
 word-requires-5 : tie.Need-word-requires-5
 word-requires-5 c κs = search needs
 
--- src/lib.rt:83:9
 place-in-requires : tie.Need-place-in-requires
 place-in-requires c κs = areas-lie-in-a-sound-picture _ (c .before .before .before .before .before .before .before .before .before .before .before .before .before .before .before .before .before .before .before .before .before .before .before .before .before .pre) Transient .inside
 
--- src/lib.rt:82:23
 enum-known-i : tie.Need-enum-known-i
 enum-known-i c = search needs
 
--- src/lib.rt:84:9
 enum-told-2 : tie.Need-enum-told-2
 enum-told-2 c = search needs
 
--- src/lib.rt:84:9
 same-length-9 : tie.Need-same-length-9
 same-length-9 c = search needs
 
--- src/lib.rt:84:9
 same-length-10 : tie.Need-same-length-10
 same-length-10 c = search needs
 
--- src/lib.rt:84:9
 returns-5 : tie.Need-returns-5
 returns-5 c = let o = owner-of _ _ _ (rw (c .before .before .before .before .before .before .before .before .before .before .before .before .before .before .before .before .before .before .before .before .before .before .before .before .before .word .ensures) at (sym (c .before .before .before .before .before .before .before .before .before .before .before .before .before .before .before .before .before .before .before .before .before .before .before .before .owner-for .ensures) ∙ c .before .before .before .before .before .before .before .before .before .before .before .before .before .before .before .before .before .before .before .before .before .before .owner .given .1)) in
     let enough = rw (c .before .before .before .before .before .before .before .before .before .before .before .before .before .before .before .before .before .before .before .word2 .ensures) at (c .before .before .before .before .before .before .before .before .before .before .before .before .before .before .before .before .before .before .if1 .left) in
@@ -158,39 +126,30 @@ returns-5 c = let o = owner-of _ _ _ (rw (c .before .before .before .before .bef
     let long = rw (c .before .before .before .before .before .before .before .before .before .word4 .ensures, c .before .before .before .before .before .before .before .before .before .before .before .before .before .before .before .before .before .before .before .word2 .ensures) at (c .before .before .before .before .before .before .before .before .block-length .ensures) in
     create-nowhere _ _ (o .0) enough place tagged _ _ long (o .1) _ (rw (c .before .before .before .before .before .before .word5 .ensures) at (c .before .before .before .before .place-in .ensures .leaves)) (sym (c .before .before .before .before .place-in .ensures .answers) ∙ c .enum-told2 .given .1)
 
--- src/lib.rt:86:40
 add-enter : tie.Need-add-enter
 add-enter c = search needs
 
--- src/lib.rt:86:57
 header-byte-requires : tie.Need-header-byte-requires
 header-byte-requires c κs = let h = placed-there _ Transient _ _ (sym (c .before .before .before .before .before .before .place-in .ensures .answers) ∙ c .before .before .i .given .1) in omega (arith, h .1 .1, areas-lie-in-a-sound-picture _ (c .before .before .before .before .before .before .before .before .before .before .before .before .before .before .before .before .before .before .before .before .before .before .before .before .before .before .before .before .before .before .before .before .pre) Transient .small)
 
--- src/lib.rt:86:5
 enter-requires : tie.Need-enter-requires
 enter-requires c κs = search needs
 
--- src/lib.rt:87:38
 add-number-of : tie.Need-add-number-of
 add-number-of c = search needs
 
--- src/lib.rt:87:19
 number-of-requires : tie.Need-number-of-requires
 number-of-requires c κs = search needs
 
--- src/lib.rt:87:5
 answer-job-requires : tie.Need-answer-job-requires
 answer-job-requires c κs = let h = placed-there _ Transient _ _ (sym (c .before .before .before .before .before .before .before .before .before .before .before .before .place-in .ensures .answers) ∙ c .before .before .before .before .before .before .before .before .i .given .1) in omega (arith, h .1 .1, areas-lie-in-a-sound-picture _ (c .before .before .before .before .before .before .before .before .before .before .before .before .before .before .before .before .before .before .before .before .before .before .before .before .before .before .before .before .before .before .before .before .before .before .before .before .before .before .pre) Transient .small)
 
--- src/lib.rt:61:1
 same-length-11 : tie.Need-same-length-11
 same-length-11 c = search needs
 
--- src/lib.rt:61:1
 same-length-12 : tie.Need-same-length-12
 same-length-12 c = search needs
 
--- src/lib.rt:61:1
 returns-6 : tie.Need-returns-6
 returns-6 c = let o = owner-of _ _ _ (rw (c .before .before .before .before .before .before .before .before .before .before .before .before .before .before .before .before .before .before .before .before .before .before .before .before .before .before .before .before .before .before .before .before .before .before .before .before .word .ensures) at (sym (c .before .before .before .before .before .before .before .before .before .before .before .before .before .before .before .before .before .before .before .before .before .before .before .before .before .before .before .before .before .before .before .before .before .before .before .owner-for .ensures) ∙ c .before .before .before .before .before .before .before .before .before .before .before .before .before .before .before .before .before .before .before .before .before .before .before .before .before .before .before .before .before .before .before .before .before .owner .given .1)) in
     let enough = rw (c .before .before .before .before .before .before .before .before .before .before .before .before .before .before .before .before .before .before .before .before .before .before .before .before .before .before .before .before .before .before .word2 .ensures) at (c .before .before .before .before .before .before .before .before .before .before .before .before .before .before .before .before .before .before .before .before .before .before .before .before .before .before .before .before .before .if1 .left) in

@@ -10,34 +10,27 @@ use Rattle.calls.proofs.caller_of.Reads as caller-of-reads
 use Rattle.creating.proofs.is_negative.Reads as is-negative-reads
 use Rattle.picture.proofs.job_at.Reads as job-at-reads
 
--- src/lib.rt:42:8
 is-negative-requires : tie.Need-is-negative-requires
 is-negative-requires c κs = search needs
 
--- src/lib.rt:43:9
 returns : tie.Need-returns
 returns c = sym (found-nobody _ _ (sym (c .before .is-negative .ensures) ∙ c .if1 .taken))
 
--- src/lib.rt:45:27
 job-at-requires : tie.Need-job-at-requires
 job-at-requires c κs = search needs
 
 enum-told : tie.Need-enum-told
 enum-told c = search needs
 
--- src/lib.rt:46:9
 enum-told-2 : tie.Need-enum-told-2
 enum-told-2 c = search needs
 
--- src/lib.rt:46:9
 returns-2 : tie.Need-returns-2
 returns-2 c = sym (found-dead _ _ (sym (c .before .before .before .before .is-negative .ensures) ∙ c .before .before .before .if1 .left) (dead-is-not-live _ _ (sym (c .before .before .job-at .ensures) ∙ c .enum-told2 .given .1)))
 
--- src/lib.rt:48:20
 caller-of-requires : tie.Need-caller-of-requires
 caller-of-requires c κs = search needs
 
--- src/lib.rt:39:1
 returns-3 : tie.Need-returns-3
 returns-3 c = rw (c .caller-of .ensures) (sym (found-caller _ _ (sym (c .before .before .before .before .before .is-negative .ensures) ∙ c .before .before .before .before .if1 .left) (found-is-live _ _ _ (sym (c .before .before .before .job-at .ensures) ∙ c .before .enum-told .given .1) .0)))
 

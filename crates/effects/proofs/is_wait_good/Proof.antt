@@ -4,35 +4,27 @@ use Rattle.effects.proofs.is_wait_good.Tie as tie
 use Rattle.effects.proofs.is_wait_good.Reads as reads
 use Rattle.effects.proofs.is_wait_good.Lts as lts
 
--- src/lib.rt:75:26
 enum-told : tie.Need-enum-told
 enum-told c = search needs
 
--- src/lib.rt:76:31
 enum-told-2 : tie.Need-enum-told-2
 enum-told-2 c = search needs
 
--- src/lib.rt:77:29
 enum-told-3 : tie.Need-enum-told-3
 enum-told-3 c = search needs
 
--- src/lib.rt:78:25
 enum-told-4 : tie.Need-enum-told-4
 enum-told-4 c = search needs
 
--- src/lib.rt:71:1
 returns : tie.Need-returns
 returns c = search needs
 
--- src/lib.rt:71:1
 returns-2 : tie.Need-returns-2
 returns-2 c = search needs
 
--- src/lib.rt:71:1
 returns-3 : tie.Need-returns-3
 returns-3 c = rw (c .enum-told3 .given .1)
 
--- src/lib.rt:71:1
 returns-4 : tie.Need-returns-4
 returns-4 c = search needs
 

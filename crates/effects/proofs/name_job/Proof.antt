@@ -7,31 +7,24 @@ use Rattle.effects.proofs.name_job.Lts as lts
 use Rattle.picture.proofs.slot_of.Reads as slot-of-reads
 use Rattle.words.proofs.put.Reads as put-reads
 
--- src/lib.rt:21:5
 put-requires : tie.Need-put-requires
 put-requires c κs = search needs
 
--- src/lib.rt:22:35
 slot-of-requires : tie.Need-slot-of-requires
 slot-of-requires c κs = search needs
 
--- src/lib.rt:22:31
 mul-put : tie.Need-mul-put
 mul-put c = search needs
 
--- src/lib.rt:22:30
 cast-put : tie.Need-cast-put
 cast-put c = search needs
 
--- src/lib.rt:22:5
 put-requires-2 : tie.Need-put-requires-2
 put-requires-2 c κs = search needs
 
--- src/lib.rt:17:1
 same-length : tie.Need-same-length
 same-length c = search needs
 
--- src/lib.rt:17:1
 returns : tie.Need-returns
 unfolding naming
 returns c = rw (c .before .before .put2 .ensures, c .before .before .before .slot-of .ensures .0, c .before .before .before .before .before .before .before .put .ensures)

@@ -6,19 +6,15 @@ use Rattle.effects.proofs.put_priority.Reads as reads
 use Rattle.effects.proofs.put_priority.Lts as lts
 use Rattle.calls.proofs.put_field.Reads as put-field-reads
 
--- src/lib.rt:66:5
 put-field-requires : tie.Need-put-field-requires
 put-field-requires c κs = search needs
 
--- src/lib.rt:67:5
 put-field-requires-2 : tie.Need-put-field-requires-2
 put-field-requires-2 c κs = search needs
 
--- src/lib.rt:62:1
 same-length : tie.Need-same-length
 same-length c = search needs
 
--- src/lib.rt:62:1
 returns : tie.Need-returns
 unfolding prioritized
 returns c = rw (c .before .before .put-field2 .ensures, c .before .before .before .before .before .before .put-field .ensures)

@@ -9,36 +9,28 @@ use Rattle.effects.proofs.put_release.Lts as lts
 use Rattle.calls.proofs.put_field.Reads as put-field-reads
 use Rattle.picture.proofs.field_of.Reads as field-of-reads
 
--- src/lib.rt:53:8
 field-of-requires : tie.Need-field-of-requires
 field-of-requires c κs = search needs
 
--- src/lib.rt:54:9
 same-length : tie.Need-same-length
 same-length c = search needs
 
--- src/lib.rt:54:9
 returns : tie.Need-returns
 unfolding released
 returns c = rw (eq-eqb _ _ (sym (c .before .field-of .ensures) ∙ c .if1 .taken))
 
--- src/lib.rt:56:5
 put-field-requires : tie.Need-put-field-requires
 put-field-requires c κs = search needs
 
--- src/lib.rt:57:5
 put-field-requires-2 : tie.Need-put-field-requires-2
 put-field-requires-2 c κs = search needs
 
--- src/lib.rt:58:5
 put-field-requires-3 : tie.Need-put-field-requires-3
 put-field-requires-3 c κs = search needs
 
--- src/lib.rt:49:1
 same-length-2 : tie.Need-same-length-2
 same-length-2 c = search needs
 
--- src/lib.rt:49:1
 returns-2 : tie.Need-returns-2
 unfolding released
 returns-2 c = rw (c .before .before .put-field3 .ensures, c .before .before .before .before .before .before .put-field2 .ensures, c .before .before .before .before .before .before .before .before .before .before .put-field .ensures, ne-eqb _ _ (λ e. c .before .before .before .before .before .before .before .before .before .before .before .before .if1 .left (c .before .before .before .before .before .before .before .before .before .before .before .before .before .field-of .ensures ∙ e)))

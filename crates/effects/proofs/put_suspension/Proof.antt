@@ -6,27 +6,21 @@ use Rattle.effects.proofs.put_suspension.Reads as reads
 use Rattle.effects.proofs.put_suspension.Lts as lts
 use Rattle.calls.proofs.put_field.Reads as put-field-reads
 
--- src/lib.rt:42:5
 put-field-requires : tie.Need-put-field-requires
 put-field-requires c κs = search needs
 
--- src/lib.rt:43:5
 put-field-requires-2 : tie.Need-put-field-requires-2
 put-field-requires-2 c κs = search needs
 
--- src/lib.rt:44:5
 put-field-requires-3 : tie.Need-put-field-requires-3
 put-field-requires-3 c κs = search needs
 
--- src/lib.rt:45:5
 put-field-requires-4 : tie.Need-put-field-requires-4
 put-field-requires-4 c κs = search needs
 
--- src/lib.rt:38:1
 same-length : tie.Need-same-length
 same-length c = search needs
 
--- src/lib.rt:38:1
 returns : tie.Need-returns
 unfolding suspended
 returns c = rw (c .before .before .put-field4 .ensures, c .before .before .before .before .before .before .put-field3 .ensures, c .before .before .before .before .before .before .before .before .before .before .put-field2 .ensures, c .before .before .before .before .before .before .before .before .before .before .before .before .before .before .put-field .ensures)

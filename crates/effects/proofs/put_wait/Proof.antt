@@ -9,52 +9,40 @@ use Rattle.effects.proofs.put_wait.Lts as lts
 use Rattle.effects.proofs.is_endless.Reads as is-endless-reads
 use Rattle.words.proofs.put.Reads as put-reads
 
--- src/lib.rt:99:9
 is-endless-requires : tie.Need-is-endless-requires
 is-endless-requires c κs = search needs
 
--- src/lib.rt:100:9
 returns : tie.Need-returns
 unfolding waiting
 returns c = rw (sym (c .before .is-endless .ensures) ∙ not-true _ (c .if1 .taken))
 
--- src/lib.rt:102:37
 mul-slot : tie.Need-mul-slot
 mul-slot c = search needs
 
--- src/lib.rt:102:16
 add-slot : tie.Need-add-slot
 add-slot c = search needs
 
--- src/lib.rt:103:19
 add-put : tie.Need-add-put
 add-put c = search needs
 
--- src/lib.rt:103:5
 put-requires : tie.Need-put-requires
 put-requires c κs = search needs
 
--- src/lib.rt:104:19
 add-put-2 : tie.Need-add-put-2
 add-put-2 c = search needs
 
--- src/lib.rt:104:5
 put-requires-2 : tie.Need-put-requires-2
 put-requires-2 c κs = search needs
 
--- src/lib.rt:105:19
 add-put-3 : tie.Need-add-put-3
 add-put-3 c = search needs
 
--- src/lib.rt:105:5
 put-requires-3 : tie.Need-put-requires-3
 put-requires-3 c κs = search needs
 
--- src/lib.rt:95:1
 same-length : tie.Need-same-length
 same-length c = search needs
 
--- src/lib.rt:95:1
 returns-2 : tie.Need-returns-2
 unfolding waiting
 returns-2 c = rw (c .before .before .put3 .ensures, c .before .before .before .before .before .before .put2 .ensures, c .before .before .before .before .before .before .before .before .before .before .put .ensures, sym (c .before .before .before .before .before .before .before .before .before .before .before .before .before .is-endless .ensures) ∙ not-false _ (c .before .before .before .before .before .before .before .before .before .before .before .before .if1 .left))

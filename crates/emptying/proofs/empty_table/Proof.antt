@@ -22,50 +22,39 @@ Inv-loop p₀ t mask k₀ k-end p k = (k ≤ k-end) × ((length p ≡ length p�
 abbrev μ-loop : tie.MeasureT-loop
 μ-loop p₀ t mask k₀ k-end p k = k-end - k
 
--- src/lib.rt:103:17
 positions-of-requires : tie.Need-positions-of-requires Inv-loop μ-loop
 positions-of-requires c κs = search needs
 
--- src/lib.rt:103:5
 loop-holds : tie.Need-loop-holds Inv-loop μ-loop
 unfolding each
 loop-holds c = (omega arith, (refl, refl))
 
--- src/lib.rt:104:9
 blank-requires : tie.Need-blank-requires Inv-loop μ-loop
 blank-requires c κs = rw (c .before .before .before .positions-of .ensures .0) at (c .before .loop-test .taken)
 
--- src/lib.rt:103:9
 add-k : tie.Need-add-k Inv-loop μ-loop
 add-k c = search needs
 
--- src/lib.rt:103:5
 loop-less : tie.Need-loop-less Inv-loop μ-loop
 loop-less c = search needs
 
--- src/lib.rt:103:5
 loop-again : tie.Need-loop-again Inv-loop μ-loop
 loop-again c = let w = c .before .before in
     let l = w .before .before .before .loop in
     (omega arith, (ap length (w .blank .ensures) ∙ length-blanked _ _ _ _ ∙ l .inv .1 .0, w .blank .ensures ∙ rw (l .inv .1 .1, each-more _ _ _)))
 
--- src/lib.rt:106:9
 mask-of-requires : tie.Need-mask-of-requires Inv-loop μ-loop
 mask-of-requires c κs = search needs
 
--- src/lib.rt:107:9
 word-requires : tie.Need-word-requires Inv-loop μ-loop
 word-requires c κs = search needs
 
--- src/lib.rt:108:5
 put-requires : tie.Need-put-requires Inv-loop μ-loop
 put-requires c κs = search needs
 
--- src/lib.rt:100:1
 same-length : tie.Need-same-length Inv-loop μ-loop
 same-length c = search needs
 
--- src/lib.rt:100:1
 returns : tie.Need-returns Inv-loop μ-loop
 unfolding emptied
 returns c = let u = c .before .before in

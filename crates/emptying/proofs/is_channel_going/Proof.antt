@@ -8,19 +8,15 @@ use Rattle.freeing.proofs.is_named.Reads as is-named-reads
 use Rattle.picture.proofs.field_of.Reads as field-of-reads
 use Rattle.picture.proofs.is_used.Reads as is-used-reads
 
--- src/lib.rt:116:5
 is-used-requires : tie.Need-is-used-requires
 is-used-requires c κs = search needs
 
--- src/lib.rt:116:53
 field-of-requires : tie.Need-field-of-requires
 field-of-requires c κs = search needs
 
--- src/lib.rt:116:38
 is-named-requires : tie.Need-is-named-requires
 is-named-requires c κs = search needs
 
--- src/lib.rt:112:1
 returns : tie.Need-returns
 unfolding channel-goes
 returns c = rw (c .is-named .ensures, c .before .field-of .ensures, c .before .before .is-used .ensures)

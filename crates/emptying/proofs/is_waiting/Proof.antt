@@ -9,23 +9,18 @@ use Rattle.picture.proofs.field_of.Reads as field-of-reads
 use Rattle.picture.proofs.is_used.Reads as is-used-reads
 use Rattle.words.proofs.is_set.Reads as is-set-reads
 
--- src/lib.rt:63:9
 field-of-requires : tie.Need-field-of-requires
 field-of-requires c κs = search needs
 
--- src/lib.rt:64:5
 is-used-requires : tie.Need-is-used-requires
 is-used-requires c κs = search needs
 
--- src/lib.rt:64:36
 is-set-requires : tie.Need-is-set-requires
 is-set-requires c κs = search needs
 
--- src/lib.rt:64:66
 is-named-requires : tie.Need-is-named-requires
 is-named-requires c κs = search needs
 
--- src/lib.rt:59:1
 returns : tie.Need-returns
 unfolding waits
 returns c = rw (c .is-named .ensures, c .before .is-set .ensures, c .before .before .is-used .ensures, c .before .before .before .field-of .ensures)

@@ -8,27 +8,21 @@ use Rattle.calls.proofs.put_nobody.Reads as put-nobody-reads
 use Rattle.emptying.proofs.empty_table.Reads as empty-table-reads
 use Rattle.emptying.proofs.wake_all.Reads as wake-all-reads
 
--- src/lib.rt:135:5
 wake-all-requires : tie.Need-wake-all-requires
 wake-all-requires c κs = search needs
 
--- src/lib.rt:136:5
 empty-table-requires : tie.Need-empty-table-requires
 empty-table-requires c κs = search needs
 
--- src/lib.rt:137:5
 empty-table-requires-2 : tie.Need-empty-table-requires-2
 empty-table-requires-2 c κs = search needs
 
--- src/lib.rt:138:5
 put-nobody-requires : tie.Need-put-nobody-requires
 put-nobody-requires c κs = search needs
 
--- src/lib.rt:132:1
 same-length : tie.Need-same-length
 same-length c = search needs
 
--- src/lib.rt:132:1
 returns : tie.Need-returns
 unfolding taken
 returns c = let n = c .before .before in

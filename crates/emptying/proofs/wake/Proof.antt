@@ -8,27 +8,21 @@ use Rattle.emptying.proofs.wake.Lts as lts
 use Rattle.calls.proofs.put_field.Reads as put-field-reads
 use Rattle.emptying.proofs.is_waiting.Reads as is-waiting-reads
 
--- src/lib.rt:72:8
 is-waiting-requires : tie.Need-is-waiting-requires
 is-waiting-requires c κs = search needs
 
--- src/lib.rt:73:9
 put-field-requires : tie.Need-put-field-requires
 put-field-requires c κs = search needs
 
--- src/lib.rt:74:9
 put-field-requires-2 : tie.Need-put-field-requires-2
 put-field-requires-2 c κs = search needs
 
--- src/lib.rt:75:9
 put-field-requires-3 : tie.Need-put-field-requires-3
 put-field-requires-3 c κs = search needs
 
--- src/lib.rt:68:1
 same-length : tie.Need-same-length
 same-length c = search needs
 
--- src/lib.rt:68:1
 returns : tie.Need-returns
 unfolding woken
 returns c = let f = c .before .before in
@@ -37,11 +31,9 @@ returns c = let f = c .before .before in
     let t = h .before .before in
     rw (f .put-field3 .ensures, g .put-field2 .ensures, h .put-field .ensures, sym (t .before .is-waiting .ensures) ∙ t .if1 .taken)
 
--- src/lib.rt:68:1
 same-length-2 : tie.Need-same-length-2
 same-length-2 c = search needs
 
--- src/lib.rt:68:1
 returns-2 : tie.Need-returns-2
 unfolding woken
 returns-2 c = rw (sym (c .before .is-waiting .ensures) ∙ c .if1 .left)

@@ -18,34 +18,27 @@ Inv-loop p₀ mask key k₀ p k = (k ≤ 32) × ((length p ≡ length p₀) × (
 abbrev μ-loop : tie.MeasureT-loop
 μ-loop p₀ mask key k₀ p k = 32 - k
 
--- src/lib.rt:83:5
 loop-holds : tie.Need-loop-holds Inv-loop μ-loop
 unfolding each
 loop-holds c = (omega arith, (refl, refl))
 
--- src/lib.rt:84:9
 wake-requires : tie.Need-wake-requires Inv-loop μ-loop
 wake-requires c κs = search needs
 
--- src/lib.rt:83:9
 add-k : tie.Need-add-k Inv-loop μ-loop
 add-k c = search needs
 
--- src/lib.rt:83:5
 loop-less : tie.Need-loop-less Inv-loop μ-loop
 loop-less c = search needs
 
--- src/lib.rt:83:5
 loop-again : tie.Need-loop-again Inv-loop μ-loop
 loop-again c = let w = c .before .before in
     let l = w .before .before .before .loop in
     (omega arith, (ap length (w .wake .ensures) ∙ length-woken _ _ _ _ ∙ l .inv .1 .0, w .wake .ensures ∙ rw (l .inv .1 .1, each-more _ _ _)))
 
--- src/lib.rt:80:1
 same-length : tie.Need-same-length Inv-loop μ-loop
 same-length c = search needs
 
--- src/lib.rt:80:1
 returns : tie.Need-returns Inv-loop μ-loop
 returns c = let e : c .before .loop .k ≡ 32 = omega arith in c .before .loop .inv .1 .1 ∙ rw e
 

@@ -10,35 +10,27 @@ use Rattle.emptying.proofs.take_entries.Reads as take-entries-reads
 use Rattle.picture.proofs.field_of.Reads as field-of-reads
 use Rattle.tree.proofs.tree_of.Reads as tree-of-reads
 
--- src/lib.rt:146:9
 tree-of-requires : tie.Need-tree-of-requires
 tree-of-requires c κs = search needs
 
--- src/lib.rt:147:9
 channels-of-requires : tie.Need-channels-of-requires
 channels-of-requires c κs = search needs
 
--- src/lib.rt:148:18
 field-of-requires : tie.Need-field-of-requires
 field-of-requires c κs = search needs
 
--- src/lib.rt:148:17
 cast-block : tie.Need-cast-block
 cast-block c = search needs
 
--- src/lib.rt:149:5
 return-blocks-requires : tie.Need-return-blocks-requires
 return-blocks-requires c κs = search needs
 
--- src/lib.rt:150:5
 take-entries-requires : tie.Need-take-entries-requires
 take-entries-requires c κs = search needs
 
--- src/lib.rt:142:1
 same-length : tie.Need-same-length
 same-length c = search needs
 
--- src/lib.rt:142:1
 returns : tie.Need-returns
 unfolding ended
 returns c = let t = c .before .before in

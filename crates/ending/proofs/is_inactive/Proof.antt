@@ -22,19 +22,15 @@ Inv-loop p mask k₀ k = (k ≤ 32) × (every (at-rest p mask) k ≡ true)
 abbrev μ-loop : tie.MeasureT-loop
 μ-loop p mask k₀ k = 32 - k
 
--- src/lib.rt:39:5
 loop-holds : tie.Need-loop-holds Inv-loop μ-loop
 loop-holds c = (omega arith, refl)
 
--- src/lib.rt:40:12
 is-set-requires : tie.Need-is-set-requires Inv-loop μ-loop
 is-set-requires c κs = search needs
 
--- src/lib.rt:40:30
 is-active-requires : tie.Need-is-active-requires Inv-loop μ-loop
 is-active-requires c κs = search needs
 
--- src/lib.rt:41:13
 returns : tie.Need-returns Inv-loop μ-loop
 unfolding inactive at-rest
 returns c = let a = c .before in
@@ -42,15 +38,12 @@ returns c = let a = c .before in
     let s = l .before .before .args in
     sym (every-not (at-rest (s .p .now) (s .mask)) 32 (l .loop .k) (a .before .before .loop-test .taken) (ap not (rw (a .is-active .ensures, a .before .is-set .ensures) at (c .if1 .taken))))
 
--- src/lib.rt:39:9
 add-k : tie.Need-add-k Inv-loop μ-loop
 add-k c = search needs
 
--- src/lib.rt:39:5
 loop-less : tie.Need-loop-less Inv-loop μ-loop
 loop-less c = search needs
 
--- src/lib.rt:39:5
 loop-again : tie.Need-loop-again Inv-loop μ-loop
 unfolding at-rest
 loop-again c = let a = c .before in
@@ -58,7 +51,6 @@ loop-again c = let a = c .before in
     let s = l .before .before .args in
     (omega arith, every-next (at-rest (s .p .now) (s .mask)) (l .loop .k) (l .loop .inv .1) (ap not (rw (a .is-active .ensures, a .before .is-set .ensures) at (c .if1 .left))))
 
--- src/lib.rt:36:1
 returns-2 : tie.Need-returns-2 Inv-loop μ-loop
 unfolding inactive
 returns-2 c = let e : c .before .loop .k ≡ 32 = omega arith in sym (rw e at (c .before .loop .inv .1))

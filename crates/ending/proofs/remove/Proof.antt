@@ -19,23 +19,18 @@ use Rattle.tree.proofs.tree_of.Reads as tree-of-reads
 use Rattle.words.proofs.clear.Reads as clear-reads
 use Rattle.words.proofs.word.Reads as word-reads
 
--- src/lib.rt:158:53
 word-requires : tie.Need-word-requires
 word-requires c κs = search needs
 
--- src/lib.rt:158:37
 number-meant-requires : tie.Need-number-meant-requires
 number-meant-requires c κs = search needs
 
--- src/lib.rt:158:27
 job-at-requires : tie.Need-job-at-requires
 job-at-requires c κs = search needs
 
--- src/lib.rt:158:22
 enum-known-t : tie.Need-enum-known-t
 enum-known-t c = search needs
 
--- src/lib.rt:159:9
 enum-told : tie.Need-enum-told
 enum-told c = search needs
 
@@ -44,51 +39,40 @@ job-is-at : (c : tie.After-known-told) → let s = c .before .before .before .be
     job-at (s .args .p .now) (meant (s .args .p .now) (D1 (s .args .d .now))) ≡ At (c .before .t .given .0 .0)
 job-is-at c = let j = c .before .before .before in rw (j .before .number-meant .ensures, j .before .before .word .ensures) at (sym (j .job-at .ensures) ∙ c .before .t .given .1)
 
--- src/lib.rt:159:9
 same-length : tie.Need-same-length
 same-length c = search needs
 
--- src/lib.rt:159:9
 same-length-2 : tie.Need-same-length-2
 same-length-2 c = search needs
 
--- src/lib.rt:159:9
 returns : tie.Need-returns
 returns c = let j = c .before .before in
     let s = j .before .before .before .before .before .before .before in
     meets-refuse _ _ _ _ (remove-no-job (s .args .p .now) (s .args .d .now) (rw (j .before .number-meant .ensures, j .before .before .word .ensures) at (sym (j .job-at .ensures) ∙ c .enum-told .given .1)))
 
--- src/lib.rt:162:9
 same-length-3 : tie.Need-same-length-3
 same-length-3 c = search needs
 
--- src/lib.rt:162:9
 same-length-4 : tie.Need-same-length-4
 same-length-4 c = search needs
 
--- src/lib.rt:162:9
 returns-2 : tie.Need-returns-2
 returns-2 c = let k = c .before in
     let s = k .before .before .before .before .before .before .before .before .before .before in
     meets-refuse _ _ _ _ (remove-job-0 (s .args .p .now) (s .args .d .now) (k .before .t .given .0 .0) (job-is-at k) (c .if1 .taken))
 
--- src/lib.rt:164:24
 tree-of-requires : tie.Need-tree-of-requires
 tree-of-requires c κs = search needs
 
--- src/lib.rt:164:9
 is-inactive-requires : tie.Need-is-inactive-requires
 is-inactive-requires c κs = search needs
 
--- src/lib.rt:165:9
 same-length-5 : tie.Need-same-length-5
 same-length-5 c = search needs
 
--- src/lib.rt:165:9
 same-length-6 : tie.Need-same-length-6
 same-length-6 c = search needs
 
--- src/lib.rt:165:9
 returns-3 : tie.Need-returns-3
 returns-3 c = let i = c .before in
     let y = i .before .before .before in
@@ -96,29 +80,23 @@ returns-3 c = let i = c .before in
     let s = k .before .before .before .before .before .before .before .before .before .before in
     meets-refuse _ _ _ _ (remove-active (s .args .p .now) (s .args .d .now) (k .before .t .given .0 .0) (job-is-at k) (y .if1 .left) (rw (i .before .tree-of .ensures) at (sym (i .is-inactive .ensures) ∙ not-true _ (c .if2 .taken))))
 
--- src/lib.rt:167:20
 word-requires-2 : tie.Need-word-requires-2
 word-requires-2 c κs = search needs
 
--- src/lib.rt:167:5
 end-tree-requires : tie.Need-end-tree-requires
 end-tree-requires c κs = let k = c .before .before .before .before .before .before .before .before in
     let s = k .before .before .before .before .before .before .before .before .before .before in
     (job-found _ _ _ (job-is-at k) .within, areas-within (s .args .p .now) (s .pre))
 
--- src/lib.rt:168:5
 clear-requires : tie.Need-clear-requires
 clear-requires c κs = search needs
 
--- src/lib.rt:154:1
 same-length-7 : tie.Need-same-length-7
 same-length-7 c = search needs
 
--- src/lib.rt:154:1
 same-length-8 : tie.Need-same-length-8
 same-length-8 c = search needs
 
--- src/lib.rt:154:1
 returns-4 : tie.Need-returns-4
 returns-4 c = let l = c .before .before in
     let e = l .before .before .before .before in

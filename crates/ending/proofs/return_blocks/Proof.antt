@@ -7,27 +7,21 @@ use Rattle.ending.proofs.return_blocks.Lts as lts
 use Rattle.freeing.proofs.sweep.Reads as sweep-reads
 use Rattle.picture.proofs.area_upto.Reads as area-upto-reads
 
--- src/lib.rt:52:9
 area-upto-requires : tie.Need-area-upto-requires
 area-upto-requires c κs = search needs
 
--- src/lib.rt:53:9
 area-upto-requires-2 : tie.Need-area-upto-requires-2
 area-upto-requires-2 c κs = search needs
 
--- src/lib.rt:54:5
 sweep-requires : tie.Need-sweep-requires
 sweep-requires c κs = search needs
 
--- src/lib.rt:55:5
 sweep-requires-2 : tie.Need-sweep-requires-2
 sweep-requires-2 c κs = search needs
 
--- src/lib.rt:48:1
 same-length : tie.Need-same-length
 same-length c = search needs
 
--- src/lib.rt:48:1
 returns : tie.Need-returns
 unfolding returned
 returns c = let b = c .before .before in

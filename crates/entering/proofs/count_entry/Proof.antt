@@ -12,35 +12,27 @@ use Rattle.picture.proofs.mask_of.Reads as mask-of-reads
 use Rattle.words.proofs.put.Reads as put-reads
 use Rattle.words.proofs.word.Reads as word-reads
 
--- src/lib.rt:25:9
 mask-of-requires : tie.Need-mask-of-requires
 mask-of-requires c κs = search needs
 
--- src/lib.rt:26:40
 word-requires : tie.Need-word-requires
 word-requires c κs = search needs
 
--- src/lib.rt:26:25
 set-bit-requires : tie.Need-set-bit-requires
 set-bit-requires c κs = omega (arith, c .before .before .before .before .before .pre, positions-within (c .before .before .before .before .before .args .t))
 
--- src/lib.rt:26:5
 put-requires : tie.Need-put-requires
 put-requires c κs = search needs
 
--- src/lib.rt:27:19
 last-of-requires : tie.Need-last-of-requires
 last-of-requires c κs = search needs
 
--- src/lib.rt:27:5
 put-requires-2 : tie.Need-put-requires-2
 put-requires-2 c κs = search needs
 
--- src/lib.rt:21:1
 same-length : tie.Need-same-length
 same-length c = search needs
 
--- src/lib.rt:21:1
 returns : tie.Need-returns
 unfolding counted
 returns c = rw (c .before .before .put2 .ensures, c .before .before .before .last-of .ensures, c .before .before .before .before .before .before .before .put .ensures, c .before .before .before .before .before .before .before .before .set-bit .ensures, c .before .before .before .before .before .before .before .before .before .word .ensures, c .before .before .before .before .before .before .before .before .before .before .before .before .mask-of .ensures)

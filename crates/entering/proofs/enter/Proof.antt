@@ -10,23 +10,18 @@ use Rattle.entering.proofs.count_entry.Reads as count-entry-reads
 use Rattle.entering.proofs.write_record.Reads as write-record-reads
 use Rattle.picture.proofs.number_of.Reads as number-of-reads
 
--- src/lib.rt:35:27
 number-of-requires : tie.Need-number-of-requires
 number-of-requires c κs = (c .before .before .pre .1, omega (arith, c .before .before .pre .0, positions-within (c .before .before .args .t)))
 
--- src/lib.rt:35:5
 write-record-requires : tie.Need-write-record-requires
 write-record-requires c κs = search needs
 
--- src/lib.rt:36:5
 count-entry-requires : tie.Need-count-entry-requires
 count-entry-requires c κs = search needs
 
--- src/lib.rt:31:1
 same-length : tie.Need-same-length
 same-length c = search needs
 
--- src/lib.rt:31:1
 returns : tie.Need-returns
 unfolding entered
 returns c = rw (c .before .before .count-entry .ensures, c .before .before .before .before .before .before .write-record .ensures, c .before .before .before .before .before .before .before .number-of .ensures)

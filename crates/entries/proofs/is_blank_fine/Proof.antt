@@ -9,28 +9,22 @@ use Rattle.entries.proofs.is_blank_fine.Lts as lts
 use Rattle.records.proofs.is_channel_zero.Reads as is-channel-zero-reads
 use Rattle.job_records.proofs.is_job_zero.Reads as is-job-zero-reads
 
--- src/lib.rt:98:25
 enum-told : tie.Need-enum-told
 enum-told c = search needs
 
--- src/lib.rt:98:35
 is-job-zero-requires : tie.Need-is-job-zero-requires
 is-job-zero-requires c κs = let s = c .before .before .before in (s .pre .0, rw (c .enum-told .given .1) at (s .pre .1))
 
--- src/lib.rt:99:28
 enum-told-2 : tie.Need-enum-told-2
 enum-told-2 c = search needs
 
--- src/lib.rt:99:28
 is-channel-zero-requires : tie.Need-is-channel-zero-requires
 is-channel-zero-requires c κs = let s = c .before .before .before in (s .pre .0, rw (c .enum-told2 .given .1) at (s .pre .1))
 
--- src/lib.rt:93:1
 returns : tie.Need-returns
 unfolding blank-fine
 returns c = rw (c .is-job-zero .ensures, c .before .enum-told .given .1)
 
--- src/lib.rt:93:1
 returns-2 : tie.Need-returns-2
 unfolding blank-fine
 returns-2 c = rw (c .is-channel-zero .ensures, c .before .enum-told2 .given .1, le-leb 0 (c .before .before .before .before .args .k) (omega arith))

@@ -9,20 +9,16 @@ use Rattle.entries.proofs.is_channel_fine.Lts as lts
 use Rattle.entries.proofs.is_entry_fine.Reads as is-entry-fine-reads
 use Rattle.records.proofs.ends_in_one.Reads as ends-in-one-reads
 
--- src/lib.rt:75:9
 is-entry-fine-requires : tie.Need-is-entry-fine-requires
 is-entry-fine-requires c κs = search needs
 
--- src/lib.rt:76:9
 returns : tie.Need-returns
 unfolding live-fine
 returns c = rw (sym (c .before .is-entry-fine .ensures) ∙ not-true _ (c .if1 .taken))
 
--- src/lib.rt:78:5
 ends-in-one-requires : tie.Need-ends-in-one-requires
 ends-in-one-requires c κs = search needs
 
--- src/lib.rt:71:1
 returns-2 : tie.Need-returns-2
 unfolding live-fine
 returns-2 c =

@@ -11,31 +11,25 @@ use Rattle.records.proofs.owner_live.Reads as owner-live-reads
 use Rattle.records.proofs.tag_given.Reads as tag-given-reads
 use Rattle.records.proofs.tag_within.Reads as tag-within-reads
 
--- src/lib.rt:18:9
 is-positioned-requires : tie.Need-is-positioned-requires
 is-positioned-requires c κs = search needs
 
--- src/lib.rt:19:9
 returns : tie.Need-returns
 unfolding entry-fine
 returns c = rw (sym (c .before .is-positioned .ensures) ∙ not-true _ (c .if1 .taken))
 
--- src/lib.rt:21:9
 tag-within-requires : tie.Need-tag-within-requires
 tag-within-requires c κs = search needs
 
--- src/lib.rt:22:9
 returns-2 : tie.Need-returns-2
 unfolding entry-fine
 returns-2 c =
     let z = c .before .before in
     rw (sym (z .before .is-positioned .ensures) ∙ not-false _ (z .if1 .left), sym (c .before .tag-within .ensures) ∙ not-true _ (c .if2 .taken))
 
--- src/lib.rt:24:9
 tag-given-requires : tie.Need-tag-given-requires
 tag-given-requires c κs = search needs
 
--- src/lib.rt:25:9
 returns-3 : tie.Need-returns-3
 unfolding entry-fine
 returns-3 c =
@@ -43,11 +37,9 @@ returns-3 c =
     let y = z .before .before in
     rw (sym (y .before .is-positioned .ensures) ∙ not-false _ (y .if1 .left), sym (z .before .tag-within .ensures) ∙ not-false _ (z .if2 .left), sym (c .before .tag-given .ensures) ∙ not-true _ (c .if3 .taken))
 
--- src/lib.rt:27:5
 owner-live-requires : tie.Need-owner-live-requires
 owner-live-requires c κs = search needs
 
--- src/lib.rt:14:1
 returns-4 : tie.Need-returns-4
 unfolding entry-fine
 returns-4 c =

@@ -15,31 +15,25 @@ use Rattle.job_records.proofs.priority_within.Reads as priority-within-reads
 use Rattle.job_records.proofs.timeout_within.Reads as timeout-within-reads
 use Rattle.job_records.proofs.waits_well.Reads as waits-well-reads
 
--- src/lib.rt:46:9
 is-entry-fine-requires : tie.Need-is-entry-fine-requires
 is-entry-fine-requires c κs = search needs
 
--- src/lib.rt:47:9
 returns : tie.Need-returns
 unfolding live-fine
 returns c = rw (sym (c .before .is-entry-fine .ensures) ∙ not-true _ (c .if1 .taken))
 
--- src/lib.rt:49:9
 is-zero-fine-requires : tie.Need-is-zero-fine-requires
 is-zero-fine-requires c κs = search needs
 
--- src/lib.rt:50:9
 returns-2 : tie.Need-returns-2
 unfolding live-fine
 returns-2 c =
     let z = c .before .before in
     rw (sym (z .before .is-entry-fine .ensures) ∙ not-false _ (z .if1 .left), sym (c .before .is-zero-fine .ensures) ∙ not-true _ (c .if2 .taken))
 
--- src/lib.rt:52:9
 priority-within-requires : tie.Need-priority-within-requires
 priority-within-requires c κs = search needs
 
--- src/lib.rt:53:9
 returns-3 : tie.Need-returns-3
 unfolding live-fine
 returns-3 c =
@@ -47,11 +41,9 @@ returns-3 c =
     let y = z .before .before in
     rw (sym (y .before .is-entry-fine .ensures) ∙ not-false _ (y .if1 .left), sym (z .before .is-zero-fine .ensures) ∙ not-false _ (z .if2 .left), sym (c .before .priority-within .ensures) ∙ not-true _ (c .if3 .taken))
 
--- src/lib.rt:55:9
 accumulated-within-requires : tie.Need-accumulated-within-requires
 accumulated-within-requires c κs = search needs
 
--- src/lib.rt:56:9
 returns-4 : tie.Need-returns-4
 unfolding live-fine
 returns-4 c =
@@ -60,11 +52,9 @@ returns-4 c =
     let x = y .before .before in
     rw (sym (x .before .is-entry-fine .ensures) ∙ not-false _ (x .if1 .left), sym (y .before .is-zero-fine .ensures) ∙ not-false _ (y .if2 .left), sym (z .before .priority-within .ensures) ∙ not-false _ (z .if3 .left), sym (c .before .accumulated-within .ensures) ∙ not-true _ (c .if4 .taken))
 
--- src/lib.rt:58:9
 timeout-within-requires : tie.Need-timeout-within-requires
 timeout-within-requires c κs = search needs
 
--- src/lib.rt:59:9
 returns-5 : tie.Need-returns-5
 unfolding live-fine
 returns-5 c =
@@ -74,11 +64,9 @@ returns-5 c =
     let w = x .before .before in
     rw (sym (w .before .is-entry-fine .ensures) ∙ not-false _ (w .if1 .left), sym (x .before .is-zero-fine .ensures) ∙ not-false _ (x .if2 .left), sym (y .before .priority-within .ensures) ∙ not-false _ (y .if3 .left), sym (z .before .accumulated-within .ensures) ∙ not-false _ (z .if4 .left), sym (c .before .timeout-within .ensures) ∙ not-true _ (c .if5 .taken))
 
--- src/lib.rt:61:9
 owner-older-requires : tie.Need-owner-older-requires
 owner-older-requires c κs = search needs
 
--- src/lib.rt:62:9
 returns-6 : tie.Need-returns-6
 unfolding live-fine
 returns-6 c =
@@ -89,11 +77,9 @@ returns-6 c =
     let v = w .before .before in
     rw (sym (v .before .is-entry-fine .ensures) ∙ not-false _ (v .if1 .left), sym (w .before .is-zero-fine .ensures) ∙ not-false _ (w .if2 .left), sym (x .before .priority-within .ensures) ∙ not-false _ (x .if3 .left), sym (y .before .accumulated-within .ensures) ∙ not-false _ (y .if4 .left), sym (z .before .timeout-within .ensures) ∙ not-false _ (z .if5 .left), sym (c .before .owner-older .ensures) ∙ not-true _ (c .if6 .taken))
 
--- src/lib.rt:64:9
 waits-well-requires : tie.Need-waits-well-requires
 waits-well-requires c κs = search needs
 
--- src/lib.rt:65:9
 returns-7 : tie.Need-returns-7
 unfolding live-fine
 returns-7 c =
@@ -105,11 +91,9 @@ returns-7 c =
     let u = v .before .before in
     rw (sym (u .before .is-entry-fine .ensures) ∙ not-false _ (u .if1 .left), sym (v .before .is-zero-fine .ensures) ∙ not-false _ (v .if2 .left), sym (w .before .priority-within .ensures) ∙ not-false _ (w .if3 .left), sym (x .before .accumulated-within .ensures) ∙ not-false _ (x .if4 .left), sym (y .before .timeout-within .ensures) ∙ not-false _ (y .if5 .left), sym (z .before .owner-older .ensures) ∙ not-false _ (z .if6 .left), sym (c .before .waits-well .ensures) ∙ not-true _ (c .if7 .taken))
 
--- src/lib.rt:67:5
 idle-zero-requires : tie.Need-idle-zero-requires
 idle-zero-requires c κs = search needs
 
--- src/lib.rt:42:1
 returns-8 : tie.Need-returns-8
 unfolding live-fine
 returns-8 c =

@@ -7,28 +7,22 @@ use Rattle.entries.proofs.is_live_fine.Lts as lts
 use Rattle.entries.proofs.is_channel_fine.Reads as is-channel-fine-reads
 use Rattle.entries.proofs.is_job_fine.Reads as is-job-fine-reads
 
--- src/lib.rt:87:24
 enum-told : tie.Need-enum-told
 enum-told c = search needs
 
--- src/lib.rt:87:24
 is-job-fine-requires : tie.Need-is-job-fine-requires
 is-job-fine-requires c κs = let s = c .before .before .before in (s .pre .0, (rw (c .enum-told .given .1) at (s .pre .1 .0), rw (c .enum-told .given .1) at (s .pre .1 .1)))
 
--- src/lib.rt:88:28
 enum-told-2 : tie.Need-enum-told-2
 enum-told-2 c = search needs
 
--- src/lib.rt:88:28
 is-channel-fine-requires : tie.Need-is-channel-fine-requires
 is-channel-fine-requires c κs = let s = c .before .before .before in (s .pre .0, (rw (c .enum-told2 .given .1) at (s .pre .1 .0), rw (c .enum-told2 .given .1) at (s .pre .1 .1)))
 
--- src/lib.rt:82:1
 returns : tie.Need-returns
 unfolding live-fine
 returns c = rw (c .is-job-fine .ensures, c .before .enum-told .given .1)
 
--- src/lib.rt:82:1
 returns-2 : tie.Need-returns-2
 unfolding live-fine
 returns-2 c = rw (c .is-channel-fine .ensures, c .before .enum-told2 .given .1)

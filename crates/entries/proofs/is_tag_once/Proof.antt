@@ -5,15 +5,12 @@ use Rattle.entries.proofs.is_tag_once.Reads as reads
 use Rattle.entries.proofs.is_tag_once.Lts as lts
 use Rattle.records.proofs.tag_alone.Reads as tag-alone-reads
 
--- src/lib.rt:111:9
 tag-alone-requires : tie.Need-tag-alone-requires
 tag-alone-requires c κs = search needs
 
--- src/lib.rt:111:9
 returns : tie.Need-returns
 returns c = rw (c .before .if1 .taken, c .tag-alone .ensures)
 
--- src/lib.rt:106:1
 returns-2 : tie.Need-returns-2
 returns-2 c = search needs
 

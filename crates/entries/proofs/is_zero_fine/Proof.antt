@@ -10,24 +10,19 @@ use Rattle.job_records.proofs.zero_base.Reads as zero-base-reads
 use Rattle.job_records.proofs.zero_exists.Reads as zero-exists-reads
 use Rattle.job_records.proofs.zero_unowned.Reads as zero-unowned-reads
 
--- src/lib.rt:36:9
 returns : tie.Need-returns
 unfolding zero-fine zero-exists zero-base zero-unowned
 returns c = rw (ne-eqb _ _ (c .if1 .taken))
 
--- src/lib.rt:38:5
 zero-exists-requires : tie.Need-zero-exists-requires
 zero-exists-requires c κs = search needs
 
--- src/lib.rt:38:35
 zero-base-requires : tie.Need-zero-base-requires
 zero-base-requires c κs = search needs
 
--- src/lib.rt:38:62
 zero-unowned-requires : tie.Need-zero-unowned-requires
 zero-unowned-requires c κs = search needs
 
--- src/lib.rt:31:1
 returns-2 : tie.Need-returns-2
 unfolding zero-fine
 returns-2 c = rw (c .zero-unowned .ensures, c .before .zero-base .ensures, c .before .before .zero-exists .ensures)

@@ -29,44 +29,35 @@ Inv-loop p t noted₀ n f seen₀ entries₀ k₀ noted seen entries k = (n ≡ 
 abbrev μ-loop : tie.MeasureT-loop
 μ-loop p t noted₀ n f seen₀ entries₀ k₀ noted seen entries k = n - k
 
--- src/lib.rt:122:9
 positions-of-requires : tie.Need-positions-of-requires Inv-loop μ-loop
 positions-of-requires c κs = search needs
 
--- src/lib.rt:123:9
 first-of-requires : tie.Need-first-of-requires Inv-loop μ-loop
 first-of-requires c κs = search needs
 
--- src/lib.rt:127:5
 loop-holds : tie.Need-loop-holds Inv-loop μ-loop
 loop-holds c = (c .before .positions-of .ensures .0, (c .first-of .ensures, (omega arith, passed-none _ _ _ (search needs))))
 
--- src/lib.rt:128:13
 is-used-requires : tie.Need-is-used-requires Inv-loop μ-loop
 is-used-requires c κs = search needs
 
--- src/lib.rt:129:17
 is-blank-fine-requires : tie.Need-is-blank-fine-requires Inv-loop μ-loop
 is-blank-fine-requires c κs =
     let l = c .before .before in
     (l .before .before .before .before .before .pre, rw (l .before .loop .inv .0) at (l .loop-test .taken))
 
--- src/lib.rt:130:17
 returns : tie.Need-returns Inv-loop μ-loop
 returns c =
     let u = c .before .before in
     let l = u .before .before in
     not-blank _ _ _ (rw (l .before .loop .inv .0) at (l .loop-test .taken)) (sym (u .before .is-used .ensures) ∙ not-true _ (u .if1 .taken)) (sym (c .before .is-blank-fine .ensures) ∙ not-true _ (c .if2 .taken))
 
--- src/lib.rt:132:13
 add-k : tie.Need-add-k Inv-loop μ-loop
 add-k c = search needs
 
--- src/lib.rt:127:5
 loop-less : tie.Need-loop-less Inv-loop μ-loop
 loop-less c = search needs
 
--- src/lib.rt:127:5
 loop-again : tie.Need-loop-again Inv-loop μ-loop
 loop-again c =
     let u = c .before .before in
@@ -74,40 +65,33 @@ loop-again c =
     let i = l .before .loop .inv in
     (i .0, (i .1 .0, (omega arith, passed-blank _ _ _ _ _ (i .1 .1 .1) (sym (u .before .is-used .ensures) ∙ not-true _ (u .if1 .taken)) (sym (c .before .is-blank-fine .ensures) ∙ not-false _ (c .if2 .left)))))
 
--- src/lib.rt:135:13
 is-live-fine-requires : tie.Need-is-live-fine-requires Inv-loop μ-loop
 is-live-fine-requires c κs =
     let l = c .before .before in
     (l .before .before .before .before .before .pre, (rw (l .before .loop .inv .0) at (l .loop-test .taken), sym (c .before .is-used .ensures) ∙ not-false _ (c .if1 .left)))
 
--- src/lib.rt:136:13
 returns-2 : tie.Need-returns-2 Inv-loop μ-loop
 returns-2 c =
     let u = c .before .before in
     let l = u .before .before in
     not-live _ _ _ (rw (l .before .loop .inv .0) at (l .loop-test .taken)) (sym (u .before .is-used .ensures) ∙ not-false _ (u .if1 .left)) (sym (c .before .is-live-fine .ensures) ∙ not-true _ (c .if3 .taken))
 
--- src/lib.rt:138:20
 tag-at-requires : tie.Need-tag-at-requires Inv-loop μ-loop
 tag-at-requires c κs =
     let l = c .before .before .before .before in
     (l .before .before .before .before .before .pre, rw (l .before .loop .inv .0) at (l .loop-test .taken))
 
--- src/lib.rt:138:19
 cast-low : tie.Need-cast-low Inv-loop μ-loop
 cast-low c = search needs
 
--- src/lib.rt:139:34
 array-read-is-tag-once : tie.Need-array-read-is-tag-once Inv-loop μ-loop
 array-read-is-tag-once c = search needs
 
--- src/lib.rt:139:13
 is-tag-once-requires : tie.Need-is-tag-once-requires Inv-loop μ-loop
 is-tag-once-requires c κs =
     let l = c .before .before .before .before .before in
     (l .before .before .before .before .before .pre, rw (l .before .loop .inv .0) at (l .loop-test .taken))
 
--- src/lib.rt:140:13
 returns-3 : tie.Need-returns-3 Inv-loop μ-loop
 returns-3 c =
     let v = c .before .before .before in
@@ -115,46 +99,36 @@ returns-3 c =
     let l = u .before .before in
     not-once _ _ _ (eqb (getD (l .before .loop .seen) (c .before .before .tag-at .result % 64) 0) 1) (rw (l .before .loop .inv .0) at (l .loop-test .taken)) (sym (u .before .is-used .ensures) ∙ not-false _ (u .if1 .left)) (sym (c .before .is-tag-once .ensures) ∙ not-true _ (c .if4 .taken))
 
--- src/lib.rt:142:9
 array-write-seen : tie.Need-array-write-seen Inv-loop μ-loop
 array-write-seen c = search needs
 
--- src/lib.rt:143:80
 cast-noted : tie.Need-cast-noted Inv-loop μ-loop
 cast-noted c = search needs
 
--- src/lib.rt:143:16
 field-of-requires : tie.Need-field-of-requires Inv-loop μ-loop
 field-of-requires c κs =
     let l = c .before .before .before .before .before .before .before in
     let s = l .before .before .before .before .before in
     (s .pre, (rw (l .before .loop .inv .0) at (l .loop-test .taken), shared (s .args .t) _ (omega arith)))
 
--- src/lib.rt:143:15
 cast-noted-2 : tie.Need-cast-noted-2 Inv-loop μ-loop
 cast-noted-2 c = search needs
 
--- src/lib.rt:143:9
 element-write-noted : tie.Need-element-write-noted Inv-loop μ-loop
 element-write-noted c = search needs
 
--- src/lib.rt:144:20
 one-of-requires : tie.Need-one-of-requires Inv-loop μ-loop
 one-of-requires c κs = search needs
 
--- src/lib.rt:144:9
 add-entries : tie.Need-add-entries Inv-loop μ-loop
 add-entries c = search needs
 
--- src/lib.rt:145:9
 add-k-2 : tie.Need-add-k-2 Inv-loop μ-loop
 add-k-2 c = search needs
 
--- src/lib.rt:127:5
 loop-less-2 : tie.Need-loop-less-2 Inv-loop μ-loop
 loop-less-2 c = search needs
 
--- src/lib.rt:127:5
 loop-again-2 : tie.Need-loop-again-2 Inv-loop μ-loop
 loop-again-2 c =
     let o = c .before .before in
@@ -165,7 +139,6 @@ loop-again-2 c =
     let i = l .before .loop .inv in
     (i .0, (i .1 .0, (omega arith, rw (a .tag-at .ensures) (passed-live _ _ _ _ _ _ (i .1 .1 .1) (sym (u .before .is-used .ensures) ∙ not-false _ (u .if1 .left)) (sym (v .before .is-live-fine .ensures) ∙ not-false _ (v .if3 .left)) (rw (a .tag-at .ensures) at (sym (o .before .is-tag-once .ensures) ∙ not-false _ (o .if4 .left))) (rw (i .1 .0) at (c .one-of .ensures .0)) (c .one-of .ensures .1)))))
 
--- src/lib.rt:118:1
 returns-4 : tie.Need-returns-4 Inv-loop μ-loop
 returns-4 c =
     let d = c .before .loop in

@@ -10,23 +10,18 @@ use Rattle.errors.proofs.error_key.Reads as reads
 use Rattle.errors.proofs.error_key.Lts as lts
 use Rattle.errors.proofs.spot_of.Reads as spot-of-reads
 
--- src/lib.rt:102:11
 spot-of-requires : tie.Need-spot-of-requires
 spot-of-requires c κs = search needs
 
--- src/lib.rt:103:31
 enum-told : tie.Need-enum-told
 enum-told c = search needs
 
--- src/lib.rt:104:31
 enum-told-2 : tie.Need-enum-told-2
 enum-told-2 c = search needs
 
--- src/lib.rt:105:26
 enum-told-3 : tie.Need-enum-told-3
 enum-told-3 c = search needs
 
--- src/lib.rt:99:1
 returns : tie.Need-returns
 unfolding error-key
 returns c =
@@ -34,7 +29,6 @@ returns c =
     let a = d .before .before .before in
     sym (ap spot-key (sym (d .spot-of .ensures ∙ ap (λ (z : ℤ). spot-of z (a .args .system .now) (a .args .driver .now)) (toZ-ofZ w32 (a .args .key) (a .fits .key))) ∙ c .enum-told .given .1))
 
--- src/lib.rt:99:1
 returns-2 : tie.Need-returns-2
 unfolding error-key
 returns-2 c =
@@ -42,7 +36,6 @@ returns-2 c =
     let a = d .before .before .before in
     sym (ap spot-key (sym (d .spot-of .ensures ∙ ap (λ (z : ℤ). spot-of z (a .args .system .now) (a .args .driver .now)) (toZ-ofZ w32 (a .args .key) (a .fits .key))) ∙ c .enum-told2 .given .1))
 
--- src/lib.rt:99:1
 returns-3 : tie.Need-returns-3
 unfolding error-key
 returns-3 c =

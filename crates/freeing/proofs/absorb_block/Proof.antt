@@ -21,35 +21,27 @@ reaches c =
     let u = next-up (s .args .p .now) (s .args .i) (s .args .e) (s .pre .1 .1) in
     (omega (arith, n .next-block .ensures), omega (arith, n .next-block .ensures))
 
--- src/lib.rt:50:9
 next-block-requires : tie.Need-next-block-requires
 next-block-requires c κs = search needs
 
--- src/lib.rt:51:5
 put-header-requires : tie.Need-put-header-requires
 put-header-requires c κs = search needs
 
--- src/lib.rt:52:17
 sub-put : tie.Need-sub-put
 sub-put c = omega (arith, reaches c)
 
--- src/lib.rt:52:16
 mul-put : tie.Need-mul-put
 mul-put c = omega (arith, reaches c)
 
--- src/lib.rt:52:15
 cast-put : tie.Need-cast-put
 cast-put c = omega (arith, reaches c)
 
--- src/lib.rt:52:5
 put-requires : tie.Need-put-requires
 put-requires c κs = search needs
 
--- src/lib.rt:46:1
 same-length : tie.Need-same-length
 same-length c = search needs
 
--- src/lib.rt:46:1
 returns : tie.Need-returns
 unfolding absorbed
 returns c = let u = c .before .before in

@@ -8,23 +8,18 @@ use Rattle.freeing.proofs.is_going.Reads as is-going-reads
 use Rattle.headers.proofs.put_header.Reads as put-header-reads
 use Rattle.words.proofs.word.Reads as word-reads
 
--- src/lib.rt:39:8
 is-going-requires : tie.Need-is-going-requires
 is-going-requires c κs = search needs
 
--- src/lib.rt:40:13
 word-requires : tie.Need-word-requires
 word-requires c κs = search needs
 
--- src/lib.rt:41:9
 put-header-requires : tie.Need-put-header-requires
 put-header-requires c κs = search needs
 
--- src/lib.rt:35:1
 same-length : tie.Need-same-length
 same-length c = search needs
 
--- src/lib.rt:35:1
 returns : tie.Need-returns
 unfolding freed
 returns c = let h = c .before .before in
@@ -32,11 +27,9 @@ returns c = let h = c .before .before in
     let t = w .before .before in
     rw (h .put-header .ensures, w .word .ensures, ← t .before .is-going .ensures, t .if1 .taken)
 
--- src/lib.rt:35:1
 same-length-2 : tie.Need-same-length-2
 same-length-2 c = search needs
 
--- src/lib.rt:35:1
 returns-2 : tie.Need-returns-2
 unfolding freed
 returns-2 c = rw (← c .before .is-going .ensures, c .if1 .left)

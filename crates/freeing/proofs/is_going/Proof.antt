@@ -7,27 +7,21 @@ use Rattle.freeing.proofs.is_going.Lts as lts
 use Rattle.freeing.proofs.is_named.Reads as is-named-reads
 use Rattle.words.proofs.word.Reads as word-reads
 
--- src/lib.rt:31:14
 add-word : tie.Need-add-word
 add-word c = search needs
 
--- src/lib.rt:31:6
 word-requires : tie.Need-word-requires
 word-requires c κs = search needs
 
--- src/lib.rt:31:71
 add-word-2 : tie.Need-add-word-2
 add-word-2 c = search needs
 
--- src/lib.rt:31:63
 word-requires-2 : tie.Need-word-requires-2
 word-requires-2 c κs = search needs
 
--- src/lib.rt:31:48
 is-named-requires : tie.Need-is-named-requires
 is-named-requires c κs = search needs
 
--- src/lib.rt:27:1
 returns : tie.Need-returns
 unfolding goes
 returns c = rw (c .is-named .ensures, c .before .word2 .ensures, c .before .before .word .ensures)

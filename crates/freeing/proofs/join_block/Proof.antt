@@ -11,36 +11,29 @@ use Rattle.freeing.proofs.join_block.Lts as lts
 use Rattle.freeing.proofs.absorb_block.Reads as absorb-block-reads
 use Rattle.words.proofs.word.Reads as word-reads
 
--- src/lib.rt:60:17
 add-word : tie.Need-add-word
 add-word c = search needs
 
--- src/lib.rt:60:9
 word-requires : tie.Need-word-requires
 word-requires c κs = search needs
 
--- src/lib.rt:61:9
 absorb-block-requires : tie.Need-absorb-block-requires
 absorb-block-requires c κs = let t = c .before in
     let s = t .before .before .before .before in
     (s .pre .0, (ltb-true (s .args .r) (s .args .i) (both (eqb (t .before .word .result) 0) (ltb (s .args .r) (s .args .i)) (t .if1 .taken) .1), s .pre .1))
 
--- src/lib.rt:56:1
 same-length : tie.Need-same-length
 same-length c = search needs
 
--- src/lib.rt:56:1
 returns : tie.Need-returns
 unfolding joined
 returns c = let b = c .before .before in
     let t = b .before .before in
     b .absorb-block .ensures ∙ rw (← t .before .word .ensures, t .if1 .taken)
 
--- src/lib.rt:56:1
 same-length-2 : tie.Need-same-length-2
 same-length-2 c = search needs
 
--- src/lib.rt:56:1
 returns-2 : tie.Need-returns-2
 unfolding joined
 returns-2 c = rw (← c .before .word .ensures, c .if1 .left)

@@ -8,25 +8,20 @@ use Rattle.freeing.proofs.run_start.Reads as reads
 use Rattle.freeing.proofs.run_start.Lts as lts
 use Rattle.words.proofs.word.Reads as word-reads
 
--- src/lib.rt:70:16
 add-word : tie.Need-add-word
 add-word c = search needs
 
--- src/lib.rt:70:8
 word-requires : tie.Need-word-requires
 word-requires c κs = search needs
 
--- src/lib.rt:71:9
 returns : tie.Need-returns
 unfolding run
 returns c = rw (ne-eqb _ _ (rw (c .before .word .ensures) at (c .if1 .taken)))
 
--- src/lib.rt:74:9
 returns-2 : tie.Need-returns-2
 unfolding run
 returns-2 c = rw (eq-eqb _ _ (sym (c .before .before .word .ensures) ∙ c .before .if1 .left), lt-ltb _ _ (c .if2 .taken))
 
--- src/lib.rt:66:1
 returns-3 : tie.Need-returns-3
 unfolding run
 returns-3 c = rw (eq-eqb _ _ (sym (c .before .before .word .ensures) ∙ c .before .if1 .left), le-ltb _ _ (c .if2 .left))

@@ -21,31 +21,24 @@ Inv-loop p₀ base e mask block i₀ r₀ p i r = (length p ≡ length p₀) × 
 abbrev μ-loop : tie.MeasureT-loop
 μ-loop p₀ base e mask block i₀ r₀ p i r = e - i
 
--- src/lib.rt:86:5
 loop-holds : tie.Need-loop-holds Inv-loop μ-loop
 loop-holds c = (refl, refl)
 
--- src/lib.rt:87:13
 next-block-requires : tie.Need-next-block-requires Inv-loop μ-loop
 next-block-requires c κs = search needs
 
--- src/lib.rt:88:9
 free-block-requires : tie.Need-free-block-requires Inv-loop μ-loop
 free-block-requires c κs = search needs
 
--- src/lib.rt:89:13
 run-start-requires : tie.Need-run-start-requires Inv-loop μ-loop
 run-start-requires c κs = search needs
 
--- src/lib.rt:90:9
 join-block-requires : tie.Need-join-block-requires Inv-loop μ-loop
 join-block-requires c κs = search needs
 
--- src/lib.rt:86:5
 loop-less : tie.Need-loop-less Inv-loop μ-loop
 loop-less c = let n = c .before .before .before .before .before .before .before .before .before .before in next-falls _ _ _ _ (n .next-block .ensures) (n .before .before .loop-test .taken)
 
--- src/lib.rt:86:5
 loop-again : tie.Need-loop-again Inv-loop μ-loop
 loop-again c = let k = c .before .before in
     let s = k .before .before in
@@ -57,11 +50,9 @@ loop-again c = let k = c .before .before in
       v .1 ∙ sweep-more _ _ _ _ _ _ (t .loop-test .taken) ∙ rw (k .join-block .ensures, s .run-start .ensures, f .free-block .ensures, n .next-block .ensures),
     )
 
--- src/lib.rt:80:1
 same-length : tie.Need-same-length Inv-loop μ-loop
 same-length c = c .before .loop .inv .0
 
--- src/lib.rt:80:1
 returns : tie.Need-returns Inv-loop μ-loop
 unfolding swept
 returns c = sym (c .before .loop .inv .1 ∙ sweep-end _ _ _ _ _ _ (c .loop-test .left))

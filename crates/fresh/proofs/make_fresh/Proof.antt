@@ -14,23 +14,18 @@ use Rattle.fresh.proofs.write_fresh.Reads as write-fresh-reads
 use Rattle.sound.proofs.heap_good.Reads as heap-good-reads
 use Rattle.sound.proofs.size_good.Reads as size-good-reads
 
--- src/lib.rt:34:9
 returns : tie.Need-returns
 returns c = refused _ _ _ (other-length _ _ _ (c .if1 .taken))
 
--- src/lib.rt:36:9
 size-good-requires : tie.Need-size-good-requires
 size-good-requires c κs = search needs
 
--- src/lib.rt:37:9
 returns-2 : tie.Need-returns-2
 returns-2 c = refused _ _ _ (bad-size _ _ _ (c .before .before .if1 .left) (sym (c .before .size-good .ensures) ∙ not-true _ (c .if2 .taken)))
 
--- src/lib.rt:39:9
 heap-good-requires : tie.Need-heap-good-requires
 heap-good-requires c κs = search needs
 
--- src/lib.rt:40:9
 returns-3 : tie.Need-returns-3
 returns-3 c =
     let b = c .before .before in
@@ -42,15 +37,12 @@ fine c =
     let a = b .before .before in
     all-good _ _ _ (a .if1 .left) (sym (b .before .size-good .ensures) ∙ not-false _ (b .if2 .left)) (sym (c .before .heap-good .ensures) ∙ not-false _ (c .if3 .left))
 
--- src/lib.rt:42:5
 write-fresh-requires : tie.Need-write-fresh-requires
 write-fresh-requires c κs = let z = sizes _ _ _ (fine (c .before)) in (z .same, z .most, z .heap-most)
 
--- src/lib.rt:30:1
 same-length : tie.Need-same-length
 same-length c = search needs
 
--- src/lib.rt:30:1
 returns-4 : tie.Need-returns-4
 returns-4 c =
     let d = c .before .before in

@@ -10,75 +10,57 @@ use Rattle.picture.proofs.mask_of.Reads as mask-of-reads
 use Rattle.words.proofs.clear.Reads as clear-reads
 use Rattle.words.proofs.put.Reads as put-reads
 
--- src/lib.rt:18:21
 add-transient : tie.Need-add-transient
 add-transient c = search needs
 
--- src/lib.rt:19:5
 clear-requires : tie.Need-clear-requires
 clear-requires c κs = search needs
 
--- src/lib.rt:20:5
 put-requires : tie.Need-put-requires
 put-requires c κs = search needs
 
--- src/lib.rt:21:5
 put-requires-2 : tie.Need-put-requires-2
 put-requires-2 c κs = search needs
 
--- src/lib.rt:22:12
 mask-of-requires : tie.Need-mask-of-requires
 mask-of-requires c κs = search needs
 
--- src/lib.rt:22:5
 put-requires-3 : tie.Need-put-requires-3
 put-requires-3 c κs = search needs
 
--- src/lib.rt:23:12
 add-put : tie.Need-add-put
 add-put c = search needs
 
--- src/lib.rt:23:5
 put-requires-4 : tie.Need-put-requires-4
 put-requires-4 c κs = search needs
 
--- src/lib.rt:24:12
 add-put-2 : tie.Need-add-put-2
 add-put-2 c = search needs
 
--- src/lib.rt:24:5
 put-requires-5 : tie.Need-put-requires-5
 put-requires-5 c κs = search needs
 
--- src/lib.rt:25:32
 mul-put : tie.Need-mul-put
 mul-put c = search needs
 
--- src/lib.rt:25:5
 put-requires-6 : tie.Need-put-requires-6
 put-requires-6 c κs = search needs
 
--- src/lib.rt:26:28
 cast-put : tie.Need-cast-put
 cast-put c = search needs
 
--- src/lib.rt:26:24
 sub-put : tie.Need-sub-put
 sub-put c = search needs
 
--- src/lib.rt:26:23
 mul-put-2 : tie.Need-mul-put-2
 mul-put-2 c = search needs
 
--- src/lib.rt:26:5
 put-requires-7 : tie.Need-put-requires-7
 put-requires-7 c κs = search needs
 
--- src/lib.rt:14:1
 same-length : tie.Need-same-length
 same-length c = search needs
 
--- src/lib.rt:14:1
 returns : tie.Need-returns
 unfolding fresh
 returns c =

@@ -8,39 +8,30 @@ use Rattle.headers.proofs.put_header.Reads as reads
 use Rattle.headers.proofs.put_header.Lts as lts
 use Rattle.words.proofs.put.Reads as put-reads
 
--- src/lib.rt:11:9
 put-requires : tie.Need-put-requires
 put-requires c κs = search needs
 
--- src/lib.rt:12:16
 add-put : tie.Need-add-put
 add-put c = search needs
 
--- src/lib.rt:12:9
 put-requires-2 : tie.Need-put-requires-2
 put-requires-2 c κs = search needs
 
--- src/lib.rt:13:16
 add-put-2 : tie.Need-add-put-2
 add-put-2 c = search needs
 
--- src/lib.rt:13:9
 put-requires-3 : tie.Need-put-requires-3
 put-requires-3 c κs = search needs
 
--- src/lib.rt:14:16
 add-put-3 : tie.Need-add-put-3
 add-put-3 c = search needs
 
--- src/lib.rt:14:9
 put-requires-4 : tie.Need-put-requires-4
 put-requires-4 c κs = search needs
 
--- src/lib.rt:7:1
 same-length : tie.Need-same-length
 same-length c = search needs
 
--- src/lib.rt:7:1
 returns : tie.Need-returns
 unfolding header
 returns c = let d = c .before .before in
@@ -49,7 +40,6 @@ returns c = let d = c .before .before in
     let g = f .before .before .before .before in
     rw (d .put4 .ensures, e .put3 .ensures, f .put2 .ensures, g .put .ensures)
 
--- src/lib.rt:7:1
 returns-2 : tie.Need-returns-2
 returns-2 c = sym (header-past-the-end _ _ _ _ _ _ (c .if1 .left))
 

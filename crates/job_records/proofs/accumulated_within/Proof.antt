@@ -6,11 +6,9 @@ use Rattle.job_records.proofs.accumulated_within.Reads as reads
 use Rattle.job_records.proofs.accumulated_within.Lts as lts
 use Rattle.tables.proofs.field_of.Reads as field-of-reads
 
--- src/lib.rt:54:5
 field-of-requires : tie.Need-field-of-requires
 field-of-requires c κs = search needs
 
--- src/lib.rt:50:1
 returns : tie.Need-returns
 unfolding accumulated-within
 returns c = rw (c .field-of .ensures)

@@ -8,20 +8,16 @@ use Rattle.job_records.proofs.idle_zero.Lts as lts
 use Rattle.tables.proofs.field_of.Reads as field-of-reads
 use Rattle.tables.proofs.is_ready.Reads as is-ready-reads
 
--- src/lib.rt:215:8
 field-of-requires : tie.Need-field-of-requires
 field-of-requires c κs = search needs
 
--- src/lib.rt:216:9
 returns : tie.Need-returns
 unfolding idle-zero
 returns c = rw (eq-eqb _ _ (rw (c .before .field-of .ensures) at (c .if1 .taken)))
 
--- src/lib.rt:218:5
 is-ready-requires : tie.Need-is-ready-requires
 is-ready-requires c κs = search needs
 
--- src/lib.rt:211:1
 returns-2 : tie.Need-returns-2
 unfolding idle-zero
 returns-2 c = rw (c .is-ready .ensures, ne-eqb _ _ (rw (c .before .before .field-of .ensures) at (c .before .if1 .left)))

@@ -7,15 +7,12 @@ use Rattle.job_records.proofs.owner_older.Lts as lts
 use Rattle.records.proofs.tag_at.Reads as tag-at-reads
 use Rattle.tables.proofs.field_of.Reads as field-of-reads
 
--- src/lib.rt:176:9
 field-of-requires : tie.Need-field-of-requires
 field-of-requires c κs = search needs
 
--- src/lib.rt:177:42
 tag-at-requires : tie.Need-tag-at-requires
 tag-at-requires c κs = search needs
 
--- src/lib.rt:172:1
 returns : tie.Need-returns
 unfolding owner-older
 returns c = rw (c .tag-at .ensures, c .before .field-of .ensures, c .before .before .before .pre .1 .1)

@@ -6,11 +6,9 @@ use Rattle.job_records.proofs.timeout_within.Reads as reads
 use Rattle.job_records.proofs.timeout_within.Lts as lts
 use Rattle.tables.proofs.field_of.Reads as field-of-reads
 
--- src/lib.rt:62:9
 field-of-requires : tie.Need-field-of-requires
 field-of-requires c κs = search needs
 
--- src/lib.rt:58:1
 returns : tie.Need-returns
 unfolding timeout-within
 returns c = rw (c .field-of .ensures)

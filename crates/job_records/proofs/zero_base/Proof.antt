@@ -6,11 +6,9 @@ use Rattle.job_records.proofs.zero_base.Reads as reads
 use Rattle.job_records.proofs.zero_base.Lts as lts
 use Rattle.tables.proofs.field_of.Reads as field-of-reads
 
--- src/lib.rt:38:17
 field-of-requires : tie.Need-field-of-requires
 field-of-requires c κs = search needs
 
--- src/lib.rt:34:1
 returns : tie.Need-returns
 unfolding zero-base
 returns c = rw (c .field-of .ensures)

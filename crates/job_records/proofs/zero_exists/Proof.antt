@@ -6,11 +6,9 @@ use Rattle.job_records.proofs.zero_exists.Reads as reads
 use Rattle.job_records.proofs.zero_exists.Lts as lts
 use Rattle.tables.proofs.field_of.Reads as field-of-reads
 
--- src/lib.rt:113:17
 field-of-requires : tie.Need-field-of-requires
 field-of-requires c κs = search needs
 
--- src/lib.rt:109:1
 returns : tie.Need-returns
 unfolding zero-exists
 returns c = rw (c .field-of .ensures, c .before .before .pre .1 .1)

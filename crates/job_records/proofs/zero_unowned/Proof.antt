@@ -6,11 +6,9 @@ use Rattle.job_records.proofs.zero_unowned.Reads as reads
 use Rattle.job_records.proofs.zero_unowned.Lts as lts
 use Rattle.tables.proofs.field_of.Reads as field-of-reads
 
--- src/lib.rt:185:17
 field-of-requires : tie.Need-field-of-requires
 field-of-requires c κs = search needs
 
--- src/lib.rt:181:1
 returns : tie.Need-returns
 unfolding zero-unowned
 returns c = rw (c .field-of .ensures)

@@ -23,127 +23,96 @@ use Rattle.words.proofs.word.Reads as word-reads
 here : (c : tie.After-k) → Found (c .before .before .before .before .before .before .before .before .before .before .args .p .now) (c .before .before .before .before .before .before .before .before .before .before .args .d .now) (c .before .before .before .before .number-meant .result .0) (c .k .given .0 .0)
 here c = found _ _ _ _ _ (c .before .before .before .before .before .word .ensures) (c .before .before .before .before .number-meant .ensures) (c .before .before .job-at .ensures) _ (c .k .given .1)
 
--- src/lib.rt:142:41
 word-requires : tie.Need-word-requires
 word-requires c κs = search needs
 
--- src/lib.rt:142:9
 number-meant-requires : tie.Need-number-meant-requires
 number-meant-requires c κs = search needs
 
--- src/lib.rt:143:27
 job-at-requires : tie.Need-job-at-requires
 job-at-requires c κs = search needs
 
--- src/lib.rt:143:22
 enum-known-k : tie.Need-enum-known-k
 enum-known-k c = search needs
 
--- src/lib.rt:144:9
 enum-told : tie.Need-enum-told
 enum-told c = search needs
 
--- src/lib.rt:144:9
 same-length : tie.Need-same-length
 same-length c = search needs
 
--- src/lib.rt:144:9
 same-length-2 : tie.Need-same-length-2
 same-length-2 c = search needs
 
--- src/lib.rt:144:9
 returns : tie.Need-returns
 returns c = activate-lost _ _ (lost (c .before .before .before .before .before .before .before .before .before .before .args .p .now) (c .before .before .before .before .before .before .before .before .before .before .args .d .now) _ _ _ (c .before .before .before .before .before .word .ensures) (c .before .before .before .before .number-meant .ensures) (c .before .before .job-at .ensures) (c .enum-told .given .1))
 
--- src/lib.rt:146:8
 is-active-requires : tie.Need-is-active-requires
 is-active-requires c κs = here (c .before .before) .below
 
--- src/lib.rt:147:9
 same-length-3 : tie.Need-same-length-3
 same-length-3 c = search needs
 
--- src/lib.rt:147:9
 same-length-4 : tie.Need-same-length-4
 same-length-4 c = search needs
 
--- src/lib.rt:147:9
 returns-2 : tie.Need-returns-2
 returns-2 c = activate-active _ _ _ _ (here (c .before .before .before .before)) _ (c .before .is-active .ensures) (c .if1 .taken)
 
--- src/lib.rt:149:20
 word-requires-2 : tie.Need-word-requires-2
 word-requires-2 c κs = search needs
 
--- src/lib.rt:151:9
 same-length-5 : tie.Need-same-length-5
 same-length-5 c = search needs
 
--- src/lib.rt:151:9
 same-length-6 : tie.Need-same-length-6
 same-length-6 c = search needs
 
--- src/lib.rt:151:9
 returns-3 : tie.Need-returns-3
 returns-3 c = activate-bad _ _ _ _ (here (c .before .before .before .before .before .before .before)) _ (c .before .before .before .before .is-active .ensures) _ (c .before .word2 .ensures) (c .before .before .before .if1 .left) (c .if2 .taken)
 
--- src/lib.rt:153:34
 word-requires-3 : tie.Need-word-requires-3
 word-requires-3 c κs = search needs
 
--- src/lib.rt:153:9
 timeout-in-requires : tie.Need-timeout-in-requires
 timeout-in-requires c κs = search needs
 
--- src/lib.rt:154:9
 is-wait-good-requires : tie.Need-is-wait-good-requires
 is-wait-good-requires c κs = search needs
 
--- src/lib.rt:155:9
 same-length-7 : tie.Need-same-length-7
 same-length-7 c = search needs
 
--- src/lib.rt:155:9
 same-length-8 : tie.Need-same-length-8
 same-length-8 c = search needs
 
--- src/lib.rt:155:9
 returns-4 : tie.Need-returns-4
 returns-4 c = activate-bad-wait _ _ _ _ (here (c .before .before .before .before .before .before .before .before .before .before .before .before)) _ (c .before .before .before .before .before .before .before .before .before .is-active .ensures) _ (c .before .before .before .before .before .before .word2 .ensures) (c .before .before .before .before .before .before .before .before .if1 .left) _ _ (c .before .before .timeout-in .ensures ∙ ap timeout-in (c .before .before .before .word3 .ensures)) (c .before .is-wait-good .ensures) (c .before .before .before .before .before .if2 .left) (c .if3 .taken)
 
--- src/lib.rt:157:14
 caller-of-requires : tie.Need-caller-of-requires
 caller-of-requires c κs = search needs
 
--- src/lib.rt:157:13
 cast-c : tie.Need-cast-c
 cast-c c = search needs
 
--- src/lib.rt:158:5
 put-priority-requires : tie.Need-put-priority-requires
 put-priority-requires c κs = here (c .before .before .before .before .before .before .before .before .before .before .before .before .before .before .before) .below
 
--- src/lib.rt:159:5
 put-wait-requires : tie.Need-put-wait-requires
 put-wait-requires c κs = search needs
 
--- src/lib.rt:160:5
 put-nobody-requires : tie.Need-put-nobody-requires
 put-nobody-requires c κs = search needs
 
--- src/lib.rt:161:5
 name-job-requires : tie.Need-name-job-requires
 name-job-requires c κs = here (c .before .before .before .before .before .before .before .before .before .before .before .before .before .before .before .before .before .before .before .before .before .before .before .before .before .before .before) .below
 
--- src/lib.rt:139:1
 same-length-9 : tie.Need-same-length-9
 same-length-9 c = search needs
 
--- src/lib.rt:139:1
 same-length-10 : tie.Need-same-length-10
 same-length-10 c = search needs
 
--- src/lib.rt:139:1
 returns-5 : tie.Need-returns-5
 returns-5 c = activate-done _ _ _ _ (here (c .before .before .before .before .before .before .before .before .before .before .before .before .before .before .before .before .before .before .before .before .before .before .before .before .before .before .before .before .before .before)) _ (c .before .before .before .before .before .before .before .before .before .before .before .before .before .before .before .before .before .before .before .before .before .before .before .before .before .before .before .is-active .ensures) _ (c .before .before .before .before .before .before .before .before .before .before .before .before .before .before .before .before .before .before .before .before .before .before .before .before .word2 .ensures) (c .before .before .before .before .before .before .before .before .before .before .before .before .before .before .before .before .before .before .before .before .before .before .before .before .before .before .if1 .left) _ _ (c .before .before .before .before .before .before .before .before .before .before .before .before .before .before .before .before .before .before .before .before .timeout-in .ensures ∙ ap timeout-in (c .before .before .before .before .before .before .before .before .before .before .before .before .before .before .before .before .before .before .before .before .before .word3 .ensures)) (c .before .before .before .before .before .before .before .before .before .before .before .before .before .before .before .before .before .before .before .is-wait-good .ensures) (c .before .before .before .before .before .before .before .before .before .before .before .before .before .before .before .before .before .before .before .before .before .before .before .if2 .left) _ _ (c .before .before .before .before .before .before .before .before .before .before .before .before .before .before .before .before .before .before .if3 .left) (c .before .before .before .before .before .before .put-nobody .ensures ∙ rw (c .before .before .before .before .before .before .before .before .before .before .put-wait .ensures, c .before .before .before .before .before .before .before .before .before .before .before .before .before .before .put-priority .ensures, c .before .before .before .before .before .before .before .before .before .before .before .before .before .before .before .before .caller-of .ensures)) (c .before .before .name-job .ensures)
 

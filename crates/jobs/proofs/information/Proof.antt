@@ -9,31 +9,24 @@ use Rattle.jobs.proofs.information.Lts as lts
 use Rattle.calls.proofs.caller_of.Reads as caller-of-reads
 use Rattle.words.proofs.put.Reads as put-reads
 
--- src/lib.rt:100:30
 caller-of-requires : tie.Need-caller-of-requires
 caller-of-requires c κs = search needs
 
--- src/lib.rt:100:5
 put-requires : tie.Need-put-requires
 put-requires c κs = search needs
 
--- src/lib.rt:101:5
 put-requires-2 : tie.Need-put-requires-2
 put-requires-2 c κs = search needs
 
--- src/lib.rt:102:5
 put-requires-3 : tie.Need-put-requires-3
 put-requires-3 c κs = search needs
 
--- src/lib.rt:97:1
 same-length : tie.Need-same-length
 same-length c = search needs
 
--- src/lib.rt:97:1
 same-length-2 : tie.Need-same-length-2
 same-length-2 c = search needs
 
--- src/lib.rt:97:1
 returns : tie.Need-returns
 unfolding information
 returns c = rw (c .before .before .put3 .ensures, c .before .before .before .before .before .before .put2 .ensures, c .before .before .before .before .before .before .before .before .before .before .put .ensures, c .before .before .before .before .before .before .before .before .before .before .before .caller-of .ensures) (meets-succeed _ _ _ refl)

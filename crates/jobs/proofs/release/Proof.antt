@@ -17,59 +17,45 @@ use Rattle.words.proofs.word.Reads as word-reads
 here : (c : tie.After-k) → Found (c .before .before .before .before .before .before .before .before .before .before .args .p .now) (c .before .before .before .before .before .before .before .before .before .before .args .d .now) (c .before .before .before .before .number-meant .result .0) (c .k .given .0 .0)
 here c = found _ _ _ _ _ (c .before .before .before .before .before .word .ensures) (c .before .before .before .before .number-meant .ensures) (c .before .before .job-at .ensures) _ (c .k .given .1)
 
--- src/lib.rt:128:41
 word-requires : tie.Need-word-requires
 word-requires c κs = search needs
 
--- src/lib.rt:128:9
 number-meant-requires : tie.Need-number-meant-requires
 number-meant-requires c κs = search needs
 
--- src/lib.rt:129:27
 job-at-requires : tie.Need-job-at-requires
 job-at-requires c κs = search needs
 
--- src/lib.rt:129:22
 enum-known-k : tie.Need-enum-known-k
 enum-known-k c = search needs
 
--- src/lib.rt:130:9
 enum-told : tie.Need-enum-told
 enum-told c = search needs
 
--- src/lib.rt:130:9
 same-length : tie.Need-same-length
 same-length c = search needs
 
--- src/lib.rt:130:9
 same-length-2 : tie.Need-same-length-2
 same-length-2 c = search needs
 
--- src/lib.rt:130:9
 returns : tie.Need-returns
 returns c = release-lost _ _ (lost (c .before .before .before .before .before .before .before .before .before .before .args .p .now) (c .before .before .before .before .before .before .before .before .before .before .args .d .now) _ _ _ (c .before .before .before .before .before .word .ensures) (c .before .before .before .before .number-meant .ensures) (c .before .before .job-at .ensures) (c .enum-told .given .1))
 
--- src/lib.rt:132:5
 put-release-requires : tie.Need-put-release-requires
 put-release-requires c κs = here (c .before .before) .below
 
--- src/lib.rt:133:5
 put-nobody-requires : tie.Need-put-nobody-requires
 put-nobody-requires c κs = search needs
 
--- src/lib.rt:134:5
 name-job-requires : tie.Need-name-job-requires
 name-job-requires c κs = here (c .before .before .before .before .before .before .before .before .before .before) .below
 
--- src/lib.rt:125:1
 same-length-3 : tie.Need-same-length-3
 same-length-3 c = search needs
 
--- src/lib.rt:125:1
 same-length-4 : tie.Need-same-length-4
 same-length-4 c = search needs
 
--- src/lib.rt:125:1
 returns-2 : tie.Need-returns-2
 returns-2 c = release-done _ _ _ _ (here (c .before .before .before .before .before .before .before .before .before .before .before .before .before)) _ _ (c .before .before .before .before .before .before .put-nobody .ensures ∙ rw (c .before .before .before .before .before .before .before .before .before .before .put-release .ensures)) (c .before .before .name-job .ensures)
 

@@ -17,75 +17,57 @@ use Rattle.words.proofs.word.Reads as word-reads
 here : (c : tie.After-k) → Found (c .before .before .before .before .before .before .before .before .before .before .args .p .now) (c .before .before .before .before .before .before .before .before .before .before .args .d .now) (c .before .before .before .before .number-meant .result .0) (c .k .given .0 .0)
 here c = found _ _ _ _ _ (c .before .before .before .before .before .word .ensures) (c .before .before .before .before .number-meant .ensures) (c .before .before .job-at .ensures) _ (c .k .given .1)
 
--- src/lib.rt:169:41
 word-requires : tie.Need-word-requires
 word-requires c κs = search needs
 
--- src/lib.rt:169:9
 number-meant-requires : tie.Need-number-meant-requires
 number-meant-requires c κs = search needs
 
--- src/lib.rt:170:27
 job-at-requires : tie.Need-job-at-requires
 job-at-requires c κs = search needs
 
--- src/lib.rt:170:22
 enum-known-k : tie.Need-enum-known-k
 enum-known-k c = search needs
 
--- src/lib.rt:171:9
 enum-told : tie.Need-enum-told
 enum-told c = search needs
 
--- src/lib.rt:171:9
 same-length : tie.Need-same-length
 same-length c = search needs
 
--- src/lib.rt:171:9
 same-length-2 : tie.Need-same-length-2
 same-length-2 c = search needs
 
--- src/lib.rt:171:9
 returns : tie.Need-returns
 returns c = set-priority-lost _ _ (lost (c .before .before .before .before .before .before .before .before .before .before .args .p .now) (c .before .before .before .before .before .before .before .before .before .before .args .d .now) _ _ _ (c .before .before .before .before .before .word .ensures) (c .before .before .before .before .number-meant .ensures) (c .before .before .job-at .ensures) (c .enum-told .given .1))
 
--- src/lib.rt:173:20
 word-requires-2 : tie.Need-word-requires-2
 word-requires-2 c κs = search needs
 
--- src/lib.rt:175:9
 same-length-3 : tie.Need-same-length-3
 same-length-3 c = search needs
 
--- src/lib.rt:175:9
 same-length-4 : tie.Need-same-length-4
 same-length-4 c = search needs
 
--- src/lib.rt:175:9
 returns-2 : tie.Need-returns-2
 returns-2 c = set-priority-bad _ _ _ _ (here (c .before .before .before .before)) _ (c .before .word2 .ensures) (c .if1 .taken)
 
--- src/lib.rt:177:5
 put-priority-requires : tie.Need-put-priority-requires
 put-priority-requires c κs = here (c .before .before .before .before .before) .below
 
--- src/lib.rt:178:5
 put-nobody-requires : tie.Need-put-nobody-requires
 put-nobody-requires c κs = search needs
 
--- src/lib.rt:179:5
 name-job-requires : tie.Need-name-job-requires
 name-job-requires c κs = here (c .before .before .before .before .before .before .before .before .before .before .before .before .before) .below
 
--- src/lib.rt:166:1
 same-length-5 : tie.Need-same-length-5
 same-length-5 c = search needs
 
--- src/lib.rt:166:1
 same-length-6 : tie.Need-same-length-6
 same-length-6 c = search needs
 
--- src/lib.rt:166:1
 returns-3 : tie.Need-returns-3
 returns-3 c = set-priority-done _ _ _ _ (here (c .before .before .before .before .before .before .before .before .before .before .before .before .before .before .before .before)) _ (c .before .before .before .before .before .before .before .before .before .before .before .before .before .word2 .ensures) _ _ (c .before .before .before .before .before .before .before .before .before .before .before .before .if1 .left) (c .before .before .before .before .before .before .put-nobody .ensures ∙ rw (c .before .before .before .before .before .before .before .before .before .before .put-priority .ensures)) (c .before .before .name-job .ensures)
 

@@ -21,91 +21,69 @@ use Rattle.words.proofs.word.Reads as word-reads
 here : (c : tie.After-k) → Found (c .before .before .before .before .before .before .before .before .before .before .args .p .now) (c .before .before .before .before .before .before .before .before .before .before .args .d .now) (c .before .before .before .before .number-meant .result .0) (c .k .given .0 .0)
 here c = found _ _ _ _ _ (c .before .before .before .before .before .word .ensures) (c .before .before .before .before .number-meant .ensures) (c .before .before .job-at .ensures) _ (c .k .given .1)
 
--- src/lib.rt:110:41
 word-requires : tie.Need-word-requires
 word-requires c κs = search needs
 
--- src/lib.rt:110:9
 number-meant-requires : tie.Need-number-meant-requires
 number-meant-requires c κs = search needs
 
--- src/lib.rt:111:27
 job-at-requires : tie.Need-job-at-requires
 job-at-requires c κs = search needs
 
--- src/lib.rt:111:22
 enum-known-k : tie.Need-enum-known-k
 enum-known-k c = search needs
 
--- src/lib.rt:112:9
 enum-told : tie.Need-enum-told
 enum-told c = search needs
 
--- src/lib.rt:112:9
 same-length : tie.Need-same-length
 same-length c = search needs
 
--- src/lib.rt:112:9
 same-length-2 : tie.Need-same-length-2
 same-length-2 c = search needs
 
--- src/lib.rt:112:9
 returns : tie.Need-returns
 returns c = suspend-lost _ _ (lost (c .before .before .before .before .before .before .before .before .before .before .args .p .now) (c .before .before .before .before .before .before .before .before .before .before .args .d .now) _ _ _ (c .before .before .before .before .before .word .ensures) (c .before .before .before .before .number-meant .ensures) (c .before .before .job-at .ensures) (c .enum-told .given .1))
 
--- src/lib.rt:114:34
 word-requires-2 : tie.Need-word-requires-2
 word-requires-2 c κs = search needs
 
--- src/lib.rt:114:9
 timeout-in-requires : tie.Need-timeout-in-requires
 timeout-in-requires c κs = search needs
 
--- src/lib.rt:115:10
 is-suspension-requires : tie.Need-is-suspension-requires
 is-suspension-requires c κs = search needs
 
--- src/lib.rt:115:30
 word-requires-3 : tie.Need-word-requires-3
 word-requires-3 c κs = search needs
 
--- src/lib.rt:116:9
 same-length-3 : tie.Need-same-length-3
 same-length-3 c = search needs
 
--- src/lib.rt:116:9
 same-length-4 : tie.Need-same-length-4
 same-length-4 c = search needs
 
--- src/lib.rt:116:9
 returns-2 : tie.Need-returns-2
 returns-2 c = suspend-bad _ _ _ _ (here (c .before .before .before .before .before .before .before .before)) _ _ _ (c .before .before .before .before .timeout-in .ensures ∙ ap timeout-in (c .before .before .before .before .before .word2 .ensures)) (c .before .before .before .is-suspension .ensures) (c .before .word3 .ensures) (c .if1 .taken)
 
--- src/lib.rt:118:26
 longword-of-requires : tie.Need-longword-of-requires
 longword-of-requires c κs = search needs
 
--- src/lib.rt:118:5
 put-suspension-requires : tie.Need-put-suspension-requires
 put-suspension-requires c κs = here (c .before .before .before .before .before .before .before .before .before .before) .below
 
--- src/lib.rt:119:5
 put-nobody-requires : tie.Need-put-nobody-requires
 put-nobody-requires c κs = search needs
 
--- src/lib.rt:120:5
 name-job-requires : tie.Need-name-job-requires
 name-job-requires c κs = here (c .before .before .before .before .before .before .before .before .before .before .before .before .before .before .before .before .before .before) .below
 
--- src/lib.rt:107:1
 same-length-5 : tie.Need-same-length-5
 same-length-5 c = search needs
 
--- src/lib.rt:107:1
 same-length-6 : tie.Need-same-length-6
 same-length-6 c = search needs
 
--- src/lib.rt:107:1
 returns-3 : tie.Need-returns-3
 returns-3 c = suspend-done _ _ _ _ (here (c .before .before .before .before .before .before .before .before .before .before .before .before .before .before .before .before .before .before .before .before .before)) _ _ _ (c .before .before .before .before .before .before .before .before .before .before .before .before .before .before .before .before .before .timeout-in .ensures ∙ ap timeout-in (c .before .before .before .before .before .before .before .before .before .before .before .before .before .before .before .before .before .before .word2 .ensures)) (c .before .before .before .before .before .before .before .before .before .before .before .before .before .before .before .before .is-suspension .ensures) (c .before .before .before .before .before .before .before .before .before .before .before .before .before .before .word3 .ensures) _ _ (c .before .before .before .before .before .before .before .before .before .before .before .before .before .if1 .left) (c .before .before .before .before .before .before .put-nobody .ensures ∙ rw (c .before .before .before .before .before .before .before .before .before .before .put-suspension .ensures, c .before .before .before .before .before .before .before .before .before .before .before .longword-of .ensures)) (c .before .before .name-job .ensures)
 

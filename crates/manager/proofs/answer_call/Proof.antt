@@ -18,66 +18,53 @@ use Rattle.manager.proofs.trap_two.Reads as trap-two-reads
 use Rattle.sound.proofs.is_sound.Reads as is-sound-reads
 use Rattle.words.proofs.word.Reads as word-reads
 
--- src/lib.rt:64:9
 is-sound-requires : tie.Need-is-sound-requires
 is-sound-requires c κs = search needs
 
--- src/lib.rt:65:9
 same-length : tie.Need-same-length
 same-length c = search needs
 
--- src/lib.rt:65:9
 returns : tie.Need-returns
 returns c = meets-refuse _ _ _ _ (checked-unsound _ _ _ _ (sym (c .before .is-sound .ensures) ∙ not-true _ (c .if1 .taken)))
 
--- src/lib.rt:67:8
 caller-of-requires : tie.Need-caller-of-requires
 caller-of-requires c κs = search needs
 
--- src/lib.rt:68:9
 same-length-2 : tie.Need-same-length-2
 same-length-2 c = search needs
 
--- src/lib.rt:68:9
 returns-2 : tie.Need-returns-2
 returns-2 c =
     let e = c .before .before .before in
     meets-refuse _ _ _ _ (checked-nobody _ _ _ _ (sym (e .before .is-sound .ensures) ∙ not-false _ (e .if1 .left)) (sym (c .before .caller-of .ensures) ∙ c .if2 .taken))
 
--- src/lib.rt:70:9
 word-requires : tie.Need-word-requires
 word-requires c κs = search needs
 
--- src/lib.rt:72:14
 trap-one-requires : tie.Need-trap-one-requires
 trap-one-requires c κs =
     let w = c .before .before .before in
     let e = w .before .before .before .before .before in
     sym (e .before .is-sound .ensures) ∙ not-false _ (e .if1 .left)
 
--- src/lib.rt:73:14
 trap-two-requires : tie.Need-trap-two-requires
 trap-two-requires c κs =
     let w = c .before .before .before in
     let e = w .before .before .before .before .before in
     sym (e .before .is-sound .ensures) ∙ not-false _ (e .if1 .left)
 
--- src/lib.rt:74:14
 trap-three-requires : tie.Need-trap-three-requires
 trap-three-requires c κs =
     let w = c .before .before .before in
     let e = w .before .before .before .before .before in
     sym (e .before .is-sound .ensures) ∙ not-false _ (e .if1 .left)
 
--- src/lib.rt:61:1
 same-length-3 : tie.Need-same-length-3
 same-length-3 c = search needs
 
--- src/lib.rt:61:1
 same-length-4 : tie.Need-same-length-4
 same-length-4 c = search needs
 
--- src/lib.rt:61:1
 returns-3 : tie.Need-returns-3
 returns-3 c =
     let f = c .before .before .before .before in
@@ -89,15 +76,12 @@ returns-3 c =
     rw (toZ-ofZ w32 (f .trap-one .result) (record { sfits = f .trap-one .ok }))
     (meets-equal _ _ _ _ _ (checked-named _ _ _ _ s (λ z. n .if2 .left (n .before .caller-of .ensures ∙ z)) ∙ named-one _ _ _ _ (m .match .keys1)) (rw (w .word .ensures) at (f .trap-one .ensures)))
 
--- src/lib.rt:61:1
 same-length-5 : tie.Need-same-length-5
 same-length-5 c = search needs
 
--- src/lib.rt:61:1
 same-length-6 : tie.Need-same-length-6
 same-length-6 c = search needs
 
--- src/lib.rt:61:1
 returns-4 : tie.Need-returns-4
 returns-4 c =
     let f = c .before .before .before .before in
@@ -109,15 +93,12 @@ returns-4 c =
     rw (toZ-ofZ w32 (f .trap-two .result) (record { sfits = f .trap-two .ok }))
     (meets-equal _ _ _ _ _ (checked-named _ _ _ _ s (λ z. n .if2 .left (n .before .caller-of .ensures ∙ z)) ∙ named-two _ _ _ _ (m .match .keys2)) (rw (w .word .ensures) at (f .trap-two .ensures)))
 
--- src/lib.rt:61:1
 same-length-7 : tie.Need-same-length-7
 same-length-7 c = search needs
 
--- src/lib.rt:61:1
 same-length-8 : tie.Need-same-length-8
 same-length-8 c = search needs
 
--- src/lib.rt:61:1
 returns-5 : tie.Need-returns-5
 returns-5 c =
     let f = c .before .before .before .before in
@@ -129,15 +110,12 @@ returns-5 c =
     rw (toZ-ofZ w32 (f .trap-three .result) (record { sfits = f .trap-three .ok }))
     (meets-equal _ _ _ _ _ (checked-named _ _ _ _ s (λ z. n .if2 .left (n .before .caller-of .ensures ∙ z)) ∙ named-three _ _ _ _ (m .match .keys3)) (rw (w .word .ensures) at (f .trap-three .ensures)))
 
--- src/lib.rt:61:1
 same-length-9 : tie.Need-same-length-9
 same-length-9 c = search needs
 
--- src/lib.rt:61:1
 same-length-10 : tie.Need-same-length-10
 same-length-10 c = search needs
 
--- src/lib.rt:61:1
 returns-6 : tie.Need-returns-6
 returns-6 c =
     let w = c .before in

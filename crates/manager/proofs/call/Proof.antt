@@ -14,31 +14,24 @@ use Rattle.manager.proofs.answer_call.Reads as answer-call-reads
 use Rattle.words.proofs.bits_of.Reads as bits-of-reads
 use Rattle.words.proofs.put.Reads as put-reads
 
--- src/lib.rt:56:9
 returns : tie.Need-returns
 returns c = meets-refuse _ _ _ _ (called-otherwise _ _ _ _ (c .if1 .taken))
 
--- src/lib.rt:58:9
 answer-call-requires : tie.Need-answer-call-requires
 answer-call-requires c κs = search needs
 
--- src/lib.rt:59:30
 bits-of-requires : tie.Need-bits-of-requires
 bits-of-requires c κs = search needs
 
--- src/lib.rt:59:5
 put-requires : tie.Need-put-requires
 put-requires c κs = search needs
 
--- src/lib.rt:52:1
 same-length : tie.Need-same-length
 same-length c = search needs
 
--- src/lib.rt:52:1
 same-length-2 : tie.Need-same-length-2
 same-length-2 c = search needs
 
--- src/lib.rt:52:1
 returns-2 : tie.Need-returns-2
 returns-2 c =
     let u = c .before .before in

@@ -10,11 +10,9 @@ use Rattle.manager.proofs.error_key.Reads as reads
 use Rattle.manager.proofs.error_key.Lts as lts
 use Rattle.errors.proofs.error_key.Reads as error-key-reads
 
--- src/lib.rt:105:5
 error-key-requires : tie.Need-error-key-requires
 error-key-requires c κs = search needs
 
--- src/lib.rt:102:1
 returns : tie.Need-returns
 returns c =
     let a = c .before .before .before in

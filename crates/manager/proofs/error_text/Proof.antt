@@ -8,11 +8,9 @@ use Rattle.manager.proofs.error_text.Reads as reads
 use Rattle.manager.proofs.error_text.Lts as lts
 use Rattle.errors.proofs.error_text.Reads as error-text-reads
 
--- src/lib.rt:98:5
 error-text-requires : tie.Need-error-text-requires
 error-text-requires c κs = search needs
 
--- src/lib.rt:95:1
 returns : tie.Need-returns
 returns c = let a = c .before .before .before in rw (toZ-ofZ w32 (a .args .key) (a .fits .key)) at (c .error-text .ensures)
 

@@ -10,28 +10,22 @@ use Rattle.manager.proofs.pick.Lts as lts
 use Rattle.sound.proofs.is_sound.Reads as is-sound-reads
 use Rattle.turns.proofs.pick_turn.Reads as pick-turn-reads
 
--- src/lib.rt:74:9
 is-sound-requires : tie.Need-is-sound-requires
 is-sound-requires c κs = search needs
 
--- src/lib.rt:75:9
 same-length : tie.Need-same-length
 same-length c = search needs
 
--- src/lib.rt:75:9
 returns : tie.Need-returns
 unfolding pick-answer pick-picture
 returns c = let s = sym (c .before .is-sound .ensures) ∙ not-true _ (c .if1 .taken) in (rw s, rw s)
 
--- src/lib.rt:80:5
 pick-turn-requires : tie.Need-pick-turn-requires
 pick-turn-requires c κs = sound-tables _ (sym (c .before .before .is-sound .ensures) ∙ not-false _ (c .before .if1 .left))
 
--- src/lib.rt:71:1
 same-length-2 : tie.Need-same-length-2
 same-length-2 c = search needs
 
--- src/lib.rt:71:1
 returns-2 : tie.Need-returns-2
 unfolding pick-answer pick-picture
 returns-2 c =

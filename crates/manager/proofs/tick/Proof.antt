@@ -10,28 +10,22 @@ use Rattle.manager.proofs.tick.Lts as lts
 use Rattle.sound.proofs.is_sound.Reads as is-sound-reads
 use Rattle.turns.proofs.tick_frame.Reads as tick-frame-reads
 
--- src/lib.rt:87:9
 is-sound-requires : tie.Need-is-sound-requires
 is-sound-requires c κs = search needs
 
--- src/lib.rt:88:9
 same-length : tie.Need-same-length
 same-length c = search needs
 
--- src/lib.rt:88:9
 returns : tie.Need-returns
 unfolding tick-key ticking
 returns c = let s = sym (c .before .is-sound .ensures) ∙ not-true _ (c .if1 .taken) in (rw s, rw s)
 
--- src/lib.rt:90:5
 tick-frame-requires : tie.Need-tick-frame-requires
 tick-frame-requires c κs = sound-tables _ (sym (c .before .before .is-sound .ensures) ∙ not-false _ (c .before .if1 .left))
 
--- src/lib.rt:84:1
 same-length-2 : tie.Need-same-length-2
 same-length-2 c = search needs
 
--- src/lib.rt:84:1
 returns-2 : tie.Need-returns-2
 unfolding tick-key ticking
 returns-2 c =

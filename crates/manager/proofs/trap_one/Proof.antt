@@ -22,235 +22,186 @@ use Rattle.memory.proofs.give_back.Reads as give-back-reads
 use Rattle.memory.proofs.longest_room.Reads as longest-room-reads
 use Rattle.memory.proofs.take.Reads as take-reads
 
--- src/lib.rt:19:16
 information-requires : tie.Need-information-requires
 information-requires c κs = search needs
 
--- src/lib.rt:20:16
 create-requires : tie.Need-create-requires
 create-requires c κs = search needs
 
--- src/lib.rt:21:16
 ask-requires : tie.Need-ask-requires
 ask-requires c κs = search needs
 
--- src/lib.rt:22:16
 remove-requires : tie.Need-remove-requires
 remove-requires c κs = search needs
 
--- src/lib.rt:23:16
 force-remove-requires : tie.Need-force-remove-requires
 force-remove-requires c κs = search needs
 
--- src/lib.rt:24:16
 longest-room-requires : tie.Need-longest-room-requires
 longest-room-requires c κs = search needs
 
--- src/lib.rt:25:16
 suspend-requires : tie.Need-suspend-requires
 suspend-requires c κs = search needs
 
--- src/lib.rt:26:16
 release-requires : tie.Need-release-requires
 release-requires c κs = search needs
 
--- src/lib.rt:27:16
 activate-requires : tie.Need-activate-requires
 activate-requires c κs = search needs
 
--- src/lib.rt:28:16
 set-priority-requires : tie.Need-set-priority-requires
 set-priority-requires c κs = search needs
 
--- src/lib.rt:29:17
 take-requires : tie.Need-take-requires
 take-requires c κs = search needs
 
--- src/lib.rt:30:17
 give-back-requires : tie.Need-give-back-requires
 give-back-requires c κs = search needs
 
--- src/lib.rt:14:1
 same-length : tie.Need-same-length
 same-length c = search needs
 
--- src/lib.rt:14:1
 same-length-2 : tie.Need-same-length-2
 same-length-2 c = search needs
 
--- src/lib.rt:14:1
 returns : tie.Need-returns
 unfolding trap-one
 returns c =
     let f = c .before .before .before .before in
     rw (f .before .before .before .match .keys1, toZ-ofZ w32 (f .information .result) (record { sfits = f .information .ok })) (f .information .ensures)
 
--- src/lib.rt:14:1
 same-length-3 : tie.Need-same-length-3
 same-length-3 c = search needs
 
--- src/lib.rt:14:1
 same-length-4 : tie.Need-same-length-4
 same-length-4 c = search needs
 
--- src/lib.rt:14:1
 returns-2 : tie.Need-returns-2
 unfolding trap-one
 returns-2 c =
     let f = c .before .before .before .before in
     rw (f .before .before .before .match .keys2, toZ-ofZ w32 (f .create .result) (record { sfits = f .create .ok })) (f .create .ensures)
 
--- src/lib.rt:14:1
 same-length-5 : tie.Need-same-length-5
 same-length-5 c = search needs
 
--- src/lib.rt:14:1
 same-length-6 : tie.Need-same-length-6
 same-length-6 c = search needs
 
--- src/lib.rt:14:1
 returns-3 : tie.Need-returns-3
 unfolding trap-one
 returns-3 c =
     let f = c .before .before .before .before in
     rw (f .before .before .before .match .keys3, toZ-ofZ w32 (f .ask .result) (record { sfits = f .ask .ok })) (f .ask .ensures)
 
--- src/lib.rt:14:1
 same-length-7 : tie.Need-same-length-7
 same-length-7 c = search needs
 
--- src/lib.rt:14:1
 same-length-8 : tie.Need-same-length-8
 same-length-8 c = search needs
 
--- src/lib.rt:14:1
 returns-4 : tie.Need-returns-4
 unfolding trap-one
 returns-4 c =
     let f = c .before .before .before .before in
     rw (f .before .before .before .match .keys4, toZ-ofZ w32 (f .remove .result) (record { sfits = f .remove .ok })) (f .remove .ensures)
 
--- src/lib.rt:14:1
 same-length-9 : tie.Need-same-length-9
 same-length-9 c = search needs
 
--- src/lib.rt:14:1
 same-length-10 : tie.Need-same-length-10
 same-length-10 c = search needs
 
--- src/lib.rt:14:1
 returns-5 : tie.Need-returns-5
 unfolding trap-one
 returns-5 c =
     let f = c .before .before .before .before in
     rw (f .before .before .before .match .keys5, toZ-ofZ w32 (f .force-remove .result) (record { sfits = f .force-remove .ok })) (f .force-remove .ensures)
 
--- src/lib.rt:14:1
 same-length-11 : tie.Need-same-length-11
 same-length-11 c = search needs
 
--- src/lib.rt:14:1
 same-length-12 : tie.Need-same-length-12
 same-length-12 c = search needs
 
--- src/lib.rt:14:1
 returns-6 : tie.Need-returns-6
 unfolding trap-one
 returns-6 c =
     let f = c .before .before .before .before in
     rw (f .before .before .before .match .keys6, toZ-ofZ w32 (f .longest-room .result) (record { sfits = f .longest-room .ok })) (f .longest-room .ensures)
 
--- src/lib.rt:14:1
 same-length-13 : tie.Need-same-length-13
 same-length-13 c = search needs
 
--- src/lib.rt:14:1
 same-length-14 : tie.Need-same-length-14
 same-length-14 c = search needs
 
--- src/lib.rt:14:1
 returns-7 : tie.Need-returns-7
 unfolding trap-one
 returns-7 c =
     let f = c .before .before .before .before in
     rw (f .before .before .before .match .keys7, toZ-ofZ w32 (f .suspend .result) (record { sfits = f .suspend .ok })) (f .suspend .ensures)
 
--- src/lib.rt:14:1
 same-length-15 : tie.Need-same-length-15
 same-length-15 c = search needs
 
--- src/lib.rt:14:1
 same-length-16 : tie.Need-same-length-16
 same-length-16 c = search needs
 
--- src/lib.rt:14:1
 returns-8 : tie.Need-returns-8
 unfolding trap-one
 returns-8 c =
     let f = c .before .before .before .before in
     rw (f .before .before .before .match .keys8, toZ-ofZ w32 (f .release .result) (record { sfits = f .release .ok })) (f .release .ensures)
 
--- src/lib.rt:14:1
 same-length-17 : tie.Need-same-length-17
 same-length-17 c = search needs
 
--- src/lib.rt:14:1
 same-length-18 : tie.Need-same-length-18
 same-length-18 c = search needs
 
--- src/lib.rt:14:1
 returns-9 : tie.Need-returns-9
 unfolding trap-one
 returns-9 c =
     let f = c .before .before .before .before in
     rw (f .before .before .before .match .keys9, toZ-ofZ w32 (f .activate .result) (record { sfits = f .activate .ok })) (f .activate .ensures)
 
--- src/lib.rt:14:1
 same-length-19 : tie.Need-same-length-19
 same-length-19 c = search needs
 
--- src/lib.rt:14:1
 same-length-20 : tie.Need-same-length-20
 same-length-20 c = search needs
 
--- src/lib.rt:14:1
 returns-10 : tie.Need-returns-10
 unfolding trap-one
 returns-10 c =
     let f = c .before .before .before .before in
     rw (f .before .before .before .match .keys10, toZ-ofZ w32 (f .set-priority .result) (record { sfits = f .set-priority .ok })) (f .set-priority .ensures)
 
--- src/lib.rt:14:1
 same-length-21 : tie.Need-same-length-21
 same-length-21 c = search needs
 
--- src/lib.rt:14:1
 same-length-22 : tie.Need-same-length-22
 same-length-22 c = search needs
 
--- src/lib.rt:14:1
 returns-11 : tie.Need-returns-11
 unfolding trap-one
 returns-11 c =
     let f = c .before .before .before .before in
     rw (f .before .before .before .match .keys11, toZ-ofZ w32 (f .take .result) (record { sfits = f .take .ok })) (f .take .ensures)
 
--- src/lib.rt:14:1
 same-length-23 : tie.Need-same-length-23
 same-length-23 c = search needs
 
--- src/lib.rt:14:1
 same-length-24 : tie.Need-same-length-24
 same-length-24 c = search needs
 
--- src/lib.rt:14:1
 returns-12 : tie.Need-returns-12
 unfolding trap-one
 returns-12 c =
     let f = c .before .before .before .before in
     rw (f .before .before .before .match .keys12, toZ-ofZ w32 (f .give-back .result) (record { sfits = f .give-back .ok })) (f .give-back .ensures)
 
--- src/lib.rt:14:1
 returns-13 : tie.Need-returns-13
 unfolding trap-one
 returns-13 c = meets-refuse _ _ _ _ (rw (ne-eqb _ _ (c .match .rest .0 .0 .0 .0 .0 .0 .0 .0 .0 .0 .0 .1), ne-eqb _ _ (c .match .rest .0 .0 .0 .0 .0 .0 .0 .0 .0 .0 .1), ne-eqb _ _ (c .match .rest .0 .0 .0 .0 .0 .0 .0 .0 .0 .1), ne-eqb _ _ (c .match .rest .0 .0 .0 .0 .0 .0 .0 .0 .1), ne-eqb _ _ (c .match .rest .0 .0 .0 .0 .0 .0 .0 .1), ne-eqb _ _ (c .match .rest .0 .0 .0 .0 .0 .0 .1), ne-eqb _ _ (c .match .rest .0 .0 .0 .0 .0 .1), ne-eqb _ _ (c .match .rest .0 .0 .0 .0 .1), ne-eqb _ _ (c .match .rest .0 .0 .0 .1), ne-eqb _ _ (c .match .rest .0 .0 .1), ne-eqb _ _ (c .match .rest .0 .1), ne-eqb _ _ (c .match .rest .1)))

@@ -13,64 +13,51 @@ use Rattle.channels.proofs.fetch.Reads as fetch-reads
 use Rattle.channels.proofs.pending.Reads as pending-reads
 use Rattle.channels.proofs.send.Reads as send-reads
 
--- src/lib.rt:53:16
 pending-requires : tie.Need-pending-requires
 pending-requires c κs = search needs
 
--- src/lib.rt:54:16
 fetch-requires : tie.Need-fetch-requires
 fetch-requires c κs = search needs
 
--- src/lib.rt:55:16
 send-requires : tie.Need-send-requires
 send-requires c κs = search needs
 
--- src/lib.rt:48:1
 same-length : tie.Need-same-length
 same-length c = search needs
 
--- src/lib.rt:48:1
 same-length-2 : tie.Need-same-length-2
 same-length-2 c = search needs
 
--- src/lib.rt:48:1
 returns : tie.Need-returns
 unfolding trap-three
 returns c =
     let f = c .before .before .before .before in
     rw (f .before .before .before .match .keys1, toZ-ofZ w32 (f .pending .result) (record { sfits = f .pending .ok })) (f .pending .ensures)
 
--- src/lib.rt:48:1
 same-length-3 : tie.Need-same-length-3
 same-length-3 c = search needs
 
--- src/lib.rt:48:1
 same-length-4 : tie.Need-same-length-4
 same-length-4 c = search needs
 
--- src/lib.rt:48:1
 returns-2 : tie.Need-returns-2
 unfolding trap-three
 returns-2 c =
     let f = c .before .before .before .before in
     rw (f .before .before .before .match .keys2, toZ-ofZ w32 (f .fetch .result) (record { sfits = f .fetch .ok })) (f .fetch .ensures)
 
--- src/lib.rt:48:1
 same-length-5 : tie.Need-same-length-5
 same-length-5 c = search needs
 
--- src/lib.rt:48:1
 same-length-6 : tie.Need-same-length-6
 same-length-6 c = search needs
 
--- src/lib.rt:48:1
 returns-3 : tie.Need-returns-3
 unfolding trap-three
 returns-3 c =
     let f = c .before .before .before .before in
     rw (f .before .before .before .match .keys3, toZ-ofZ w32 (f .send .result) (record { sfits = f .send .ok })) (f .send .ensures)
 
--- src/lib.rt:48:1
 returns-4 : tie.Need-returns-4
 unfolding trap-three
 returns-4 c = meets-refuse _ _ _ _ (rw (ne-eqb _ _ (c .match .rest .0 .0 .1), ne-eqb _ _ (c .match .rest .0 .1), ne-eqb _ _ (c .match .rest .1)))

@@ -12,45 +12,36 @@ use Rattle.manager.proofs.trap_two.Lts as lts
 use Rattle.channels.proofs.close_channel.Reads as close-channel-reads
 use Rattle.opening.proofs.open_channel.Reads as open-channel-reads
 
--- src/lib.rt:41:16
 open-channel-requires : tie.Need-open-channel-requires
 open-channel-requires c κs = search needs
 
--- src/lib.rt:42:16
 close-channel-requires : tie.Need-close-channel-requires
 close-channel-requires c κs = search needs
 
--- src/lib.rt:36:1
 same-length : tie.Need-same-length
 same-length c = search needs
 
--- src/lib.rt:36:1
 same-length-2 : tie.Need-same-length-2
 same-length-2 c = search needs
 
--- src/lib.rt:36:1
 returns : tie.Need-returns
 unfolding trap-two
 returns c =
     let f = c .before .before .before .before in
     rw (f .before .before .before .match .keys1, toZ-ofZ w32 (f .open-channel .result) (record { sfits = f .open-channel .ok })) (f .open-channel .ensures)
 
--- src/lib.rt:36:1
 same-length-3 : tie.Need-same-length-3
 same-length-3 c = search needs
 
--- src/lib.rt:36:1
 same-length-4 : tie.Need-same-length-4
 same-length-4 c = search needs
 
--- src/lib.rt:36:1
 returns-2 : tie.Need-returns-2
 unfolding trap-two
 returns-2 c =
     let f = c .before .before .before .before in
     rw (f .before .before .before .match .keys2, toZ-ofZ w32 (f .close-channel .result) (record { sfits = f .close-channel .ok })) (f .close-channel .ensures)
 
--- src/lib.rt:36:1
 returns-3 : tie.Need-returns-3
 unfolding trap-two
 returns-3 c = meets-refuse _ _ _ _ (rw (ne-eqb _ _ (c .match .rest .0 .1), ne-eqb _ _ (c .match .rest .1)))

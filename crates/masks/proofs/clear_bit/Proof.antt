@@ -8,29 +8,23 @@ use Rattle.masks.proofs.clear_bit.Reads as reads
 use Rattle.masks.proofs.clear_bit.Lts as lts
 use Rattle.words.proofs.is_set.Reads as is-set-reads
 
--- src/lib.rt:23:8
 is-set-requires : tie.Need-is-set-requires
 is-set-requires c κs = search needs
 
--- src/lib.rt:24:29
 cast-result : tie.Need-cast-result
 cast-result c = search needs
 
--- src/lib.rt:24:24
 shl-result : tie.Need-shl-result
 shl-result c = search needs
 
--- src/lib.rt:24:16
 sub-result : tie.Need-sub-result
 sub-result c = let a = c .before .before in
     rw (one-shifted (a .args .k) (a .pre)) (held (a .args .k) (a .args .mask) (eqb-true _ _ (sym (c .before .is-set .ensures) ∙ c .if1 .taken)) .0)
 
--- src/lib.rt:24:9
 returns : tie.Need-returns
 returns c = let a = c .before .before in
     rw (one-shifted (a .args .k) (a .pre)) (sym (without-bit-taken _ _ (sym (c .before .is-set .ensures) ∙ c .if1 .taken)))
 
--- src/lib.rt:19:1
 returns-2 : tie.Need-returns-2
 returns-2 c = sym (without-bit-clear _ _ (sym (c .before .is-set .ensures) ∙ c .if1 .left))
 

@@ -7,29 +7,23 @@ use Rattle.masks.proofs.set_bit.Reads as reads
 use Rattle.masks.proofs.set_bit.Lts as lts
 use Rattle.words.proofs.is_set.Reads as is-set-reads
 
--- src/lib.rt:12:8
 is-set-requires : tie.Need-is-set-requires
 is-set-requires c κs = search needs
 
--- src/lib.rt:13:9
 returns : tie.Need-returns
 returns c = sym (with-bit-set _ _ (sym (c .before .is-set .ensures) ∙ c .if1 .taken))
 
--- src/lib.rt:15:18
 cast-result : tie.Need-cast-result
 cast-result c = search needs
 
--- src/lib.rt:15:13
 shl-result : tie.Need-shl-result
 shl-result c = search needs
 
--- src/lib.rt:15:5
 add-result : tie.Need-add-result
 add-result c = let a = c .before .before in
     let z = clear-is (a .args .mask) (a .args .k) (sym (c .before .is-set .ensures) ∙ c .if1 .left) in
     rw (one-shifted (a .args .k) (a .pre)) (record { fits = sum-fits 32 (a .args .k) (a .args .mask) (a .pre) (a .fits .mask .fits) z })
 
--- src/lib.rt:8:1
 returns-2 : tie.Need-returns-2
 returns-2 c = let a = c .before .before in
     rw (one-shifted (a .args .k) (a .pre)) (sym (with-bit-added _ _ (sym (c .before .is-set .ensures) ∙ c .if1 .left)))

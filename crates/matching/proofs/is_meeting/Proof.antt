@@ -10,36 +10,28 @@ use Rattle.matching.proofs.is_meeting.Lts as lts
 use Rattle.tables.proofs.field_of.Reads as field-of-reads
 use Rattle.tables.proofs.word_at.Reads as word-at-reads
 
--- src/lib.rt:37:8
 field-of-requires : tie.Need-field-of-requires
 field-of-requires c κs = let s = c .before in (s .pre .0, (s .pre .1 .0, shared (s .args .t) _ (omega arith)))
 
--- src/lib.rt:37:8
 cast-if1 : tie.Need-cast-if1
 cast-if1 c = search needs
 
--- src/lib.rt:37:53
 mul-if1 : tie.Need-mul-if1
 mul-if1 c = search needs
 
--- src/lib.rt:38:9
 returns : tie.Need-returns
 unfolding meets
 returns c = rw (ne-eqb _ _ (rw (c .before .field-of .ensures) at (c .if1 .taken)))
 
--- src/lib.rt:40:5
 field-of-requires-2 : tie.Need-field-of-requires-2
 field-of-requires-2 c κs = let s = c .before .before .before in (s .pre .0, (s .pre .1 .0, shared (s .args .t) _ (omega arith)))
 
--- src/lib.rt:40:61
 add-word-at : tie.Need-add-word-at
 add-word-at c = search needs
 
--- src/lib.rt:40:42
 word-at-requires : tie.Need-word-at-requires
 word-at-requires c κs = search needs
 
--- src/lib.rt:33:1
 returns-2 : tie.Need-returns-2
 unfolding meets
 returns-2 c = let d = c .before .before in rw (eq-eqb _ _ (rw (d .before .field-of .ensures) at (d .if1 .left)), c .word-at .ensures, c .before .field-of2 .ensures)

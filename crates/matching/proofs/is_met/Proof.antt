@@ -21,34 +21,27 @@ Inv-loop p t i n k₀ k = (n ≡ positions t) × ((k ≤ n) × (every (λ (j : �
 abbrev μ-loop : tie.MeasureT-loop
 μ-loop p t i n k₀ k = n - k
 
--- src/lib.rt:48:9
 positions-of-requires : tie.Need-positions-of-requires Inv-loop μ-loop
 positions-of-requires c κs = search needs
 
--- src/lib.rt:50:5
 loop-holds : tie.Need-loop-holds Inv-loop μ-loop
 loop-holds c = (c .positions-of .ensures .0, (omega arith, refl))
 
--- src/lib.rt:51:12
 is-meeting-requires : tie.Need-is-meeting-requires Inv-loop μ-loop
 is-meeting-requires c κs = let l = c .before in let s = l .before .before .before in (s .pre .0, (rw (l .loop .inv .0) at (c .loop-test .taken), s .pre .1))
 
--- src/lib.rt:52:13
 returns : tie.Need-returns Inv-loop μ-loop
 returns c =
     let l = c .before .before in
     let a = l .before .before .before .before .args in
     sym (met-at _ _ _ (l .before .loop .k) (rw (l .before .loop .inv .0) at (l .loop-test .taken)) (sym (c .before .is-meeting .ensures) ∙ c .if1 .taken))
 
--- src/lib.rt:54:9
 add-k : tie.Need-add-k Inv-loop μ-loop
 add-k c = search needs
 
--- src/lib.rt:50:5
 loop-less : tie.Need-loop-less Inv-loop μ-loop
 loop-less c = search needs
 
--- src/lib.rt:50:5
 loop-again : tie.Need-loop-again Inv-loop μ-loop
 loop-again c =
     let l = c .before .before in
@@ -56,7 +49,6 @@ loop-again c =
     let i = l .before .loop .inv in
     (i .0, (omega arith, every-next (λ (j : ℕ). not (meets (a .p .now) (a .t) j (a .i))) (l .before .loop .k) (i .1 .1) (ap not (sym (c .before .is-meeting .ensures) ∙ c .if1 .left))))
 
--- src/lib.rt:44:1
 returns-2 : tie.Need-returns-2 Inv-loop μ-loop
 returns-2 c =
     let d = c .before .loop in

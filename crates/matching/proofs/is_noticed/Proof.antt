@@ -9,30 +9,24 @@ use Rattle.matching.proofs.is_meeting.Reads as is-meeting-reads
 use Rattle.matching.proofs.wide.Reads as wide-reads
 use Rattle.picture.proofs.positions_of.Reads as positions-of-reads
 
--- src/lib.rt:77:18
 element-copy-out-wide : tie.Need-element-copy-out-wide
 element-copy-out-wide c = search needs
 
--- src/lib.rt:77:9
 wide-requires : tie.Need-wide-requires
 wide-requires c κs = search needs
 
--- src/lib.rt:78:8
 positions-of-requires : tie.Need-positions-of-requires
 positions-of-requires c κs = search needs
 
--- src/lib.rt:79:9
 returns : tie.Need-returns
 unfolding noticed
 returns c =
     let w = c .before in
     rw (le-ltb _ _ (rw (w .positions-of .ensures .0, w .before .wide .ensures) at (c .if1 .taken)))
 
--- src/lib.rt:81:5
 is-meeting-requires : tie.Need-is-meeting-requires
 is-meeting-requires c κs = search needs
 
--- src/lib.rt:73:1
 returns-2 : tie.Need-returns-2
 unfolding noticed
 returns-2 c =

@@ -9,31 +9,24 @@ use Rattle.memory.proofs.room_of.Reads as room-of-reads
 use Rattle.rooms.proofs.first_byte.Reads as first-byte-reads
 use Rattle.words.proofs.put.Reads as put-reads
 
--- src/lib.rt:62:5
 clear-registers-requires : tie.Need-clear-registers-requires
 clear-registers-requires c κs = search needs
 
--- src/lib.rt:63:16
 room-of-requires : tie.Need-room-of-requires
 room-of-requires c κs = search needs
 
--- src/lib.rt:63:5
 put-requires : tie.Need-put-requires
 put-requires c κs = search needs
 
--- src/lib.rt:64:16
 first-byte-requires : tie.Need-first-byte-requires
 first-byte-requires c κs = search needs
 
--- src/lib.rt:64:5
 put-requires-2 : tie.Need-put-requires-2
 put-requires-2 c κs = search needs
 
--- src/lib.rt:58:1
 same-length : tie.Need-same-length
 same-length c = search needs
 
--- src/lib.rt:58:1
 returns : tie.Need-returns
 unfolding room-registers
 returns c = rw (c .before .before .put2 .ensures, c .before .before .before .first-byte .ensures, c .before .before .before .before .before .before .before .put .ensures, c .before .before .before .before .before .before .before .before .room-of .ensures, c .before .before .before .before .before .before .before .before .before .before .before .before .clear-registers .ensures)

@@ -19,55 +19,42 @@ use Rattle.picture.proofs.area_from.Reads as area-from-reads
 use Rattle.picture.proofs.area_upto.Reads as area-upto-reads
 use Rattle.words.proofs.word.Reads as word-reads
 
--- src/lib.rt:127:9
 word-requires : tie.Need-word-requires
 word-requires c κs = search needs
 
--- src/lib.rt:128:9
 is-plain-room-requires : tie.Need-is-plain-room-requires
 is-plain-room-requires c κs = search needs
 
--- src/lib.rt:129:9
 same-length : tie.Need-same-length
 same-length c = search needs
 
--- src/lib.rt:129:9
 same-length-2 : tie.Need-same-length-2
 same-length-2 c = search needs
 
--- src/lib.rt:129:9
 returns : tie.Need-returns
 returns c = meets-refuse _ _ _ _ (give-back-bad _ _ (sym (rw (c .before .before .before .word .ensures) at (c .before .is-plain-room .ensures)) ∙ not-true _ (c .if1 .taken)))
 
--- src/lib.rt:131:9
 area-from-requires : tie.Need-area-from-requires
 area-from-requires c κs = search needs
 
--- src/lib.rt:132:9
 area-upto-requires : tie.Need-area-upto-requires
 area-upto-requires c κs = search needs
 
--- src/lib.rt:133:35
 block-before-requires : tie.Need-block-before-requires
 block-before-requires c κs = search needs
 
--- src/lib.rt:133:5
 sweep-requires : tie.Need-sweep-requires
 sweep-requires c κs = omega (arith, c .before .before .area-upto .ensures .0, areas-lie-in-a-sound-picture _ (c .before .before .before .before .before .before .before .before .before .before .before .before .before .pre) Heap .small)
 
--- src/lib.rt:134:5
 clear-registers-requires : tie.Need-clear-registers-requires
 clear-registers-requires c κs = search needs
 
--- src/lib.rt:123:1
 same-length-3 : tie.Need-same-length-3
 same-length-3 c = search needs
 
--- src/lib.rt:123:1
 same-length-4 : tie.Need-same-length-4
 same-length-4 c = search needs
 
--- src/lib.rt:123:1
 returns-2 : tie.Need-returns-2
 unfolding given-back
 returns-2 c = let good = sym (rw (c .before .before .before .before .before .before .before .before .before .before .before .before .before .before .before .before .word .ensures) at (c .before .before .before .before .before .before .before .before .before .before .before .before .before .before .is-plain-room .ensures)) ∙ not-false _ (c .before .before .before .before .before .before .before .before .before .before .before .before .before .if1 .left) in

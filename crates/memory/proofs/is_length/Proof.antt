@@ -5,7 +5,6 @@ use Rattle.memory.proofs.is_length.Tie as tie
 use Rattle.memory.proofs.is_length.Reads as reads
 use Rattle.memory.proofs.is_length.Lts as lts
 
--- src/lib.rt:51:1
 returns : tie.Need-returns
 unfolding length-good
 returns c = search needs

@@ -22,40 +22,31 @@ Inv-loop p a e i₀ i = any (plain-room p a) (starts p i₀ e) ≡ any (plain-ro
 abbrev μ-loop : tie.MeasureT-loop
 μ-loop p a e i₀ i = e - i
 
--- src/lib.rt:101:9
 area-upto-requires : tie.Need-area-upto-requires Inv-loop μ-loop
 area-upto-requires c κs = search needs
 
--- src/lib.rt:102:9
 area-from-requires : tie.Need-area-from-requires Inv-loop μ-loop
 area-from-requires c κs = search needs
 
--- src/lib.rt:103:5
 loop-holds : tie.Need-loop-holds Inv-loop μ-loop
 loop-holds c = refl
 
--- src/lib.rt:104:12
 is-plain-at-requires : tie.Need-is-plain-at-requires Inv-loop μ-loop
 is-plain-at-requires c κs = omega (arith, c .before .before .before .area-upto .ensures .1)
 
--- src/lib.rt:105:13
 returns : tie.Need-returns Inv-loop μ-loop
 unfolding is-plain-room
 returns c = sym (rw (c .before .before .before .before .area-from .ensures .0, c .before .before .before .before .before .area-upto .ensures .0) at (c .before .before .before .loop .inv ∙ any-here _ _ _ _ (c .before .before .loop-test .taken) (sym (c .before .is-plain-at .ensures) ∙ c .if1 .taken)))
 
--- src/lib.rt:107:9
 next-block-requires : tie.Need-next-block-requires Inv-loop μ-loop
 next-block-requires c κs = search needs
 
--- src/lib.rt:103:5
 loop-less : tie.Need-loop-less Inv-loop μ-loop
 loop-less c = next-falls _ _ _ _ (c .next-block .ensures) (c .before .before .before .loop-test .taken)
 
--- src/lib.rt:103:5
 loop-again : tie.Need-loop-again Inv-loop μ-loop
 loop-again c = c .before .before .before .before .loop .inv ∙ any-more _ _ _ _ (c .before .before .before .loop-test .taken) (sym (c .before .before .is-plain-at .ensures) ∙ c .before .if1 .left) ∙ rw (c .next-block .ensures)
 
--- src/lib.rt:98:1
 returns-2 : tie.Need-returns-2 Inv-loop μ-loop
 unfolding is-plain-room
 returns-2 c = sym (rw (c .before .before .area-from .ensures .0, c .before .before .before .area-upto .ensures .0) at (c .before .loop .inv ∙ any-end _ _ _ _ (c .loop-test .left)))

@@ -13,39 +13,30 @@ use Rattle.picture.proofs.area_upto.Reads as area-upto-reads
 use Rattle.placing.proofs.longest_free.Reads as longest-free-reads
 use Rattle.words.proofs.put.Reads as put-reads
 
--- src/lib.rt:42:9
 area-from-requires : tie.Need-area-from-requires
 area-from-requires c κs = search needs
 
--- src/lib.rt:43:9
 area-upto-requires : tie.Need-area-upto-requires
 area-upto-requires c κs = search needs
 
--- src/lib.rt:44:9
 longest-free-requires : tie.Need-longest-free-requires
 longest-free-requires c κs = search needs
 
--- src/lib.rt:45:5
 clear-registers-requires : tie.Need-clear-registers-requires
 clear-registers-requires c κs = search needs
 
--- src/lib.rt:46:16
 room-of-requires : tie.Need-room-of-requires
 room-of-requires c κs = search needs
 
--- src/lib.rt:46:5
 put-requires : tie.Need-put-requires
 put-requires c κs = search needs
 
--- src/lib.rt:39:1
 same-length : tie.Need-same-length
 same-length c = search needs
 
--- src/lib.rt:39:1
 same-length-2 : tie.Need-same-length-2
 same-length-2 c = search needs
 
--- src/lib.rt:39:1
 returns : tie.Need-returns
 unfolding longest-room
 returns c = rw (c .before .before .put .ensures, c .before .before .before .room-of .ensures, c .before .before .before .before .before .before .before .clear-registers .ensures, c .before .before .before .before .before .before .before .before .before .longest-free .ensures, c .before .before .before .before .before .before .before .before .before .before .before .area-upto .ensures .0, c .before .before .before .before .before .before .before .before .before .before .before .before .before .area-from .ensures .0) (meets-succeed _ _ _ refl)

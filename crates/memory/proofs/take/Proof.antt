@@ -20,82 +20,63 @@ use Rattle.rooms.proofs.block_length.Reads as block-length-reads
 use Rattle.rooms.proofs.place_in.Reads as place-in-reads
 use Rattle.words.proofs.word.Reads as word-reads
 
--- src/lib.rt:72:9
 word-requires : tie.Need-word-requires
 word-requires c κs = search needs
 
--- src/lib.rt:73:9
 is-length-requires : tie.Need-is-length-requires
 is-length-requires c κs = search needs
 
--- src/lib.rt:74:9
 same-length : tie.Need-same-length
 same-length c = search needs
 
--- src/lib.rt:74:9
 returns : tie.Need-returns
 returns c = meets-refuse _ _ _ _ (take-bad _ _ (sym (rw (c .before .before .word .ensures) at (c .before .is-length .ensures)) ∙ not-true _ (c .if1 .taken)))
 
--- src/lib.rt:76:40
 word-requires-2 : tie.Need-word-requires-2
 word-requires-2 c κs = search needs
 
--- src/lib.rt:76:9
 number-meant-requires : tie.Need-number-meant-requires
 number-meant-requires c κs = search needs
 
--- src/lib.rt:77:27
 job-at-requires : tie.Need-job-at-requires
 job-at-requires c κs = search needs
 
 enum-told : tie.Need-enum-told
 enum-told c = search needs
 
--- src/lib.rt:78:9
 enum-told-2 : tie.Need-enum-told-2
 enum-told-2 c = search needs
 
--- src/lib.rt:78:9
 same-length-2 : tie.Need-same-length-2
 same-length-2 c = search needs
 
--- src/lib.rt:78:9
 same-length-3 : tie.Need-same-length-3
 same-length-3 c = search needs
 
--- src/lib.rt:78:9
 returns-2 : tie.Need-returns-2
 returns-2 c = meets-refuse _ _ _ _ (take-dead _ _ (sym (rw (c .before .before .before .before .before .before .before .before .before .before .word .ensures) at (c .before .before .before .before .before .before .before .before .before .is-length .ensures)) ∙ not-false _ (c .before .before .before .before .before .before .before .before .if1 .left)) (dead-is-not-live _ _ (rw (c .before .before .before .before .number-meant .ensures, c .before .before .before .before .before .word2 .ensures) at (sym (c .before .before .job-at .ensures) ∙ c .enum-told2 .given .1))))
 
--- src/lib.rt:80:38
 cast-block-length : tie.Need-cast-block-length
 cast-block-length c = search needs
 
--- src/lib.rt:80:9
 block-length-requires : tie.Need-block-length-requires
 block-length-requires c κs = search needs
 
--- src/lib.rt:82:9
 place-in-requires : tie.Need-place-in-requires
 place-in-requires c κs = areas-lie-in-a-sound-picture _ (c .before .before .before .before .before .before .before .before .before .before .before .before .before .before .before .before .pre) Heap .inside
 
--- src/lib.rt:81:23
 enum-known-i : tie.Need-enum-known-i
 enum-known-i c = search needs
 
--- src/lib.rt:83:9
 enum-told-3 : tie.Need-enum-told-3
 enum-told-3 c = search needs
 
--- src/lib.rt:83:9
 same-length-4 : tie.Need-same-length-4
 same-length-4 c = search needs
 
--- src/lib.rt:83:9
 same-length-5 : tie.Need-same-length-5
 same-length-5 c = search needs
 
--- src/lib.rt:83:9
 returns-3 : tie.Need-returns-3
 returns-3 c = let good = sym (rw (c .before .before .before .before .before .before .before .before .before .before .before .before .before .before .before .before .before .word .ensures) at (c .before .before .before .before .before .before .before .before .before .before .before .before .before .before .before .before .is-length .ensures)) ∙ not-false _ (c .before .before .before .before .before .before .before .before .before .before .before .before .before .before .before .if1 .left) in
     let alive = found-is-live _ _ _ (rw (c .before .before .before .before .before .before .before .before .before .before .before .number-meant .ensures, c .before .before .before .before .before .before .before .before .before .before .before .before .word2 .ensures) at (sym (c .before .before .before .before .before .before .before .before .before .job-at .ensures) ∙ c .before .before .before .before .before .before .before .enum-told .given .1)) .0 in
@@ -103,23 +84,18 @@ returns-3 c = let good = sym (rw (c .before .before .before .before .before .bef
     let owner = rw (c .before .before .before .before .before .before .before .before .before .before .before .before .word2 .ensures) at (c .before .before .before .before .before .before .before .before .before .before .before .number-meant .ensures) in
     take-nowhere _ _ _ _ good alive long owner _ (c .before .before .before .before .place-in .ensures .leaves) (sym (c .before .before .before .before .place-in .ensures .answers) ∙ c .enum-told3 .given .1)
 
--- src/lib.rt:85:20
 cast-answer-room : tie.Need-cast-answer-room
 cast-answer-room c = let good = sym (c .before .before .before .before .before .before .before .before .before .before .before .before .before .before .before .before .before .before .is-length .ensures) ∙ not-false _ (c .before .before .before .before .before .before .before .before .before .before .before .before .before .before .before .before .before .if1 .left) in omega (arith, c .before .before .before .before .before .before .before .before .block-length .ensures, length-small _ good)
 
--- src/lib.rt:85:5
 answer-room-requires : tie.Need-answer-room-requires
 answer-room-requires c κs = let h = placed-there _ Heap _ _ (sym (c .before .before .before .before .before .before .place-in .ensures .answers) ∙ c .before .before .i .given .1) in omega (arith, h .1 .1, areas-lie-in-a-sound-picture _ (c .before .before .before .before .before .before .before .before .before .before .before .before .before .before .before .before .before .before .before .before .before .before .before .pre) Heap .small)
 
--- src/lib.rt:68:1
 same-length-6 : tie.Need-same-length-6
 same-length-6 c = search needs
 
--- src/lib.rt:68:1
 same-length-7 : tie.Need-same-length-7
 same-length-7 c = search needs
 
--- src/lib.rt:68:1
 returns-4 : tie.Need-returns-4
 returns-4 c = let good = sym (rw (c .before .before .before .before .before .before .before .before .before .before .before .before .before .before .before .before .before .before .before .before .before .before .word .ensures) at (c .before .before .before .before .before .before .before .before .before .before .before .before .before .before .before .before .before .before .before .before .before .is-length .ensures)) ∙ not-false _ (c .before .before .before .before .before .before .before .before .before .before .before .before .before .before .before .before .before .before .before .before .if1 .left) in
     let alive = found-is-live _ _ _ (rw (c .before .before .before .before .before .before .before .before .before .before .before .before .before .before .before .before .number-meant .ensures, c .before .before .before .before .before .before .before .before .before .before .before .before .before .before .before .before .before .word2 .ensures) at (sym (c .before .before .before .before .before .before .before .before .before .before .before .before .before .before .job-at .ensures) ∙ c .before .before .before .before .before .before .before .before .before .before .before .before .enum-told .given .1)) .0 in

@@ -6,15 +6,12 @@ use Rattle.names.proofs.byte_at.Tie as tie
 use Rattle.names.proofs.byte_at.Reads as reads
 use Rattle.names.proofs.byte_at.Lts as lts
 
--- src/lib.rt:40:16
 shared-slice-read-result : tie.Need-shared-slice-read-result
 shared-slice-read-result c = search needs
 
--- src/lib.rt:40:9
 returns : tie.Need-returns
 returns c = search needs
 
--- src/lib.rt:36:1
 returns-2 : tie.Need-returns-2
 returns-2 c = sym (List·getD-eq-default (c .before .args .name .now) 0 (c .if1 .left))
 

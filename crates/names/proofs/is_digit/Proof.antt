@@ -6,7 +6,6 @@ use Rattle.names.proofs.is_digit.Tie as tie
 use Rattle.names.proofs.is_digit.Reads as reads
 use Rattle.names.proofs.is_digit.Lts as lts
 
--- src/lib.rt:63:1
 returns : tie.Need-returns
 unfolding digit
 returns c = search needs

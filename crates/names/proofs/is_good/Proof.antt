@@ -5,38 +5,30 @@ use Rattle.names.proofs.is_good.Tie as tie
 use Rattle.names.proofs.is_good.Reads as reads
 use Rattle.names.proofs.is_good.Lts as lts
 
--- src/lib.rt:40:26
 enum-told : tie.Need-enum-told
 enum-told c = search needs
 
--- src/lib.rt:41:26
 enum-told-2 : tie.Need-enum-told-2
 enum-told-2 c = search needs
 
--- src/lib.rt:42:29
 enum-told-3 : tie.Need-enum-told-3
 enum-told-3 c = search needs
 
--- src/lib.rt:43:23
 enum-told-4 : tie.Need-enum-told-4
 enum-told-4 c = search needs
 
--- src/lib.rt:36:1
 returns : tie.Need-returns
 unfolding good
 returns c = rw (c .enum-told .given .1)
 
--- src/lib.rt:36:1
 returns-2 : tie.Need-returns-2
 unfolding good
 returns-2 c = rw (c .enum-told2 .given .1)
 
--- src/lib.rt:36:1
 returns-3 : tie.Need-returns-3
 unfolding good
 returns-3 c = rw (c .enum-told3 .given .1)
 
--- src/lib.rt:36:1
 returns-4 : tie.Need-returns-4
 unfolding good
 returns-4 c = rw (c .enum-told4 .given .1)

@@ -5,11 +5,9 @@ use Rattle.names.proofs.is_letter.Tie as tie
 use Rattle.names.proofs.is_letter.Reads as reads
 use Rattle.names.proofs.is_letter.Lts as lts
 
--- src/lib.rt:50:28
 add-result : tie.Need-add-result
 add-result c = search needs
 
--- src/lib.rt:46:1
 returns : tie.Need-returns
 unfolding letter
 returns c = search needs

@@ -7,39 +7,30 @@ use Rattle.names.proofs.is_pipe.Lts as lts
 use Rattle.names.proofs.byte_at.Reads as byte-at-reads
 use Rattle.names.proofs.is_letter.Reads as is-letter-reads
 
--- src/lib.rt:57:21
 byte-at-requires : tie.Need-byte-at-requires
 byte-at-requires c κs = search needs
 
--- src/lib.rt:57:5
 is-letter-requires : tie.Need-is-letter-requires
 is-letter-requires c κs = search needs
 
--- src/lib.rt:58:28
 byte-at-requires-2 : tie.Need-byte-at-requires-2
 byte-at-requires-2 c κs = search needs
 
--- src/lib.rt:58:12
 is-letter-requires-2 : tie.Need-is-letter-requires-2
 is-letter-requires-2 c κs = search needs
 
--- src/lib.rt:59:32
 byte-at-requires-3 : tie.Need-byte-at-requires-3
 byte-at-requires-3 c κs = search needs
 
--- src/lib.rt:59:16
 is-letter-requires-3 : tie.Need-is-letter-requires-3
 is-letter-requires-3 c κs = search needs
 
--- src/lib.rt:59:68
 byte-at-requires-4 : tie.Need-byte-at-requires-4
 byte-at-requires-4 c κs = search needs
 
--- src/lib.rt:59:52
 is-letter-requires-4 : tie.Need-is-letter-requires-4
 is-letter-requires-4 c κs = search needs
 
--- src/lib.rt:54:1
 returns : tie.Need-returns
 unfolding pipe
 returns c = rw (c .is-letter4 .ensures, c .before .byte-at4 .ensures, c .before .before .is-letter3 .ensures, c .before .before .before .byte-at3 .ensures, c .before .before .before .before .is-letter2 .ensures, c .before .before .before .before .before .byte-at2 .ensures, c .before .before .before .before .before .before .is-letter .ensures, c .before .before .before .before .before .before .before .byte-at .ensures)

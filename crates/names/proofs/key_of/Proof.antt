@@ -6,38 +6,30 @@ use Rattle.names.proofs.key_of.Tie as tie
 use Rattle.names.proofs.key_of.Reads as reads
 use Rattle.names.proofs.key_of.Lts as lts
 
--- src/lib.rt:28:26
 enum-told : tie.Need-enum-told
 enum-told c = search needs
 
--- src/lib.rt:29:26
 enum-told-2 : tie.Need-enum-told-2
 enum-told-2 c = search needs
 
--- src/lib.rt:30:29
 enum-told-3 : tie.Need-enum-told-3
 enum-told-3 c = search needs
 
--- src/lib.rt:31:23
 enum-told-4 : tie.Need-enum-told-4
 enum-told-4 c = search needs
 
--- src/lib.rt:24:1
 returns : tie.Need-returns
 unfolding key-of
 returns c = rw (c .enum-told .given .1)
 
--- src/lib.rt:24:1
 returns-2 : tie.Need-returns-2
 unfolding key-of
 returns-2 c = rw (c .enum-told2 .given .1)
 
--- src/lib.rt:24:1
 returns-3 : tie.Need-returns-3
 unfolding key-of
 returns-3 c = rw (c .enum-told3 .given .1)
 
--- src/lib.rt:24:1
 returns-4 : tie.Need-returns-4
 unfolding key-of
 returns-4 c = rw (c .enum-told4 .given .1)

@@ -5,38 +5,30 @@ use Rattle.names.proofs.number_in.Tie as tie
 use Rattle.names.proofs.number_in.Reads as reads
 use Rattle.names.proofs.number_in.Lts as lts
 
--- src/lib.rt:52:20
 enum-known-name : tie.Need-enum-known-name
 enum-known-name c = search needs
 
--- src/lib.rt:53:26
 enum-told : tie.Need-enum-told
 enum-told c = search needs
 
--- src/lib.rt:54:29
 enum-told-2 : tie.Need-enum-told-2
 enum-told-2 c = search needs
 
--- src/lib.rt:55:23
 enum-told-3 : tie.Need-enum-told-3
 enum-told-3 c = search needs
 
--- src/lib.rt:48:1
 returns : tie.Need-returns
 unfolding number-in
 returns c = rw (c .before .name .given .1)
 
--- src/lib.rt:48:1
 returns-2 : tie.Need-returns-2
 unfolding number-in
 returns-2 c = rw (c .enum-told .given .1)
 
--- src/lib.rt:48:1
 returns-3 : tie.Need-returns-3
 unfolding number-in
 returns-3 c = rw (c .enum-told2 .given .1)
 
--- src/lib.rt:48:1
 returns-4 : tie.Need-returns-4
 unfolding number-in
 returns-4 c = rw (c .enum-told3 .given .1)

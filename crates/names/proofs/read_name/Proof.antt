@@ -10,35 +10,28 @@ use Rattle.names.proofs.byte_at.Reads as byte-at-reads
 use Rattle.names.proofs.is_pipe.Reads as is-pipe-reads
 use Rattle.names.proofs.read_number.Reads as read-number-reads
 
--- src/lib.rt:102:9
 is-pipe-requires : tie.Need-is-pipe-requires
 is-pipe-requires c κs = search needs
 
--- src/lib.rt:103:9
 returns : tie.Need-returns
 unfolding named
 returns c = rw (sym (c .before .is-pipe .ensures) ∙ not-true _ (c .if1 .taken))
 
--- src/lib.rt:106:9
 returns-2 : tie.Need-returns-2
 unfolding named
 returns-2 c = rw (sym (c .before .before .is-pipe .ensures) ∙ not-false _ (c .before .if1 .left), eq-eqb _ _ (c .if2 .taken))
 
--- src/lib.rt:108:8
 byte-at-requires : tie.Need-byte-at-requires
 byte-at-requires c κs = search needs
 
--- src/lib.rt:109:9
 returns-3 : tie.Need-returns-3
 unfolding named
 returns-3 c = let f = c .before .before in let e = f .before in let s = e .before .before .before .args .name .now in
     rw (sym (e .before .is-pipe .ensures) ∙ not-false _ (e .if1 .left), ne-eqb _ _ (f .if2 .left), ne-eqb (byte s 4) 95 (λ z. c .if3 .taken (c .before .byte-at .ensures ∙ z)))
 
--- src/lib.rt:111:5
 read-number-requires : tie.Need-read-number-requires
 read-number-requires c κs = search needs
 
--- src/lib.rt:99:1
 returns-4 : tie.Need-returns-4
 unfolding named
 returns-4 c = let g = c .before .before in let f = g .before in let e = f .before in

@@ -20,60 +20,46 @@ Inv-loop name n₀ i₀ n i = (5 ≤ i) × (i ≤ length name) × (n < 10 ^ (i -
 abbrev μ-loop : tie.MeasureT-loop
 μ-loop name n₀ i₀ n i = length name - i
 
--- src/lib.rt:74:9
 returns : tie.Need-returns Inv-loop μ-loop
 returns c = sym (too-few (c .before .before .args .name .now) (c .if1 .taken))
 
--- src/lib.rt:76:8
 add-if2 : tie.Need-add-if2 Inv-loop μ-loop
 add-if2 c = search needs
 
--- src/lib.rt:77:9
 returns-2 : tie.Need-returns-2 Inv-loop μ-loop
 returns-2 c = sym (too-many (c .before .before .before .args .name .now) (c .if2 .taken))
 
--- src/lib.rt:81:5
 loop-holds : tie.Need-loop-holds Inv-loop μ-loop
 loop-holds c = (omega arith, omega arith, omega arith, refl, refl)
 
--- src/lib.rt:82:17
 shared-slice-read-b : tie.Need-shared-slice-read-b Inv-loop μ-loop
 shared-slice-read-b c = search needs
 
--- src/lib.rt:83:13
 is-digit-requires : tie.Need-is-digit-requires Inv-loop μ-loop
 is-digit-requires c κs = search needs
 
--- src/lib.rt:84:13
 returns-3 : tie.Need-returns-3 Inv-loop μ-loop
 returns-3 c = let a = c .before in let l = a .before .before .before in let e = l .before in let s = e .before .before .before .args .name .now in
     sym (other-byte s (e .before .if1 .left) (e .if2 .left) (l .loop .inv .3 ∙ digits-not s (l .loop .i) (a .before .before .loop-test .taken) (sym (a .is-digit .ensures) ∙ not-true _ (c .if3 .taken))))
 
--- src/lib.rt:86:13
 mul-n : tie.Need-mul-n Inv-loop μ-loop
 mul-n c = let l = c .before .before .before .before in let f = five-fit (l .loop .i - 5) (l .loop .n) (omega arith) (l .loop .inv .2) in omega arith
 
--- src/lib.rt:86:23
 sub-n : tie.Need-sub-n Inv-loop μ-loop
 sub-n c = omega (arith, digit-is _ (sym (c .before .is-digit .ensures) ∙ not-false _ (c .if3 .left)))
 
--- src/lib.rt:86:22
 cast-n : tie.Need-cast-n Inv-loop μ-loop
 cast-n c = omega (arith, digit-is _ (sym (c .before .is-digit .ensures) ∙ not-false _ (c .if3 .left)))
 
--- src/lib.rt:86:13
 add-n : tie.Need-add-n Inv-loop μ-loop
 add-n c = let l = c .before .before .before .before in let f = five-fit (l .loop .i - 5) (l .loop .n) (omega arith) (l .loop .inv .2) in omega (arith, digit-is _ (sym (c .before .is-digit .ensures) ∙ not-false _ (c .if3 .left)))
 
--- src/lib.rt:87:9
 add-i : tie.Need-add-i Inv-loop μ-loop
 add-i c = search needs
 
--- src/lib.rt:81:5
 loop-less : tie.Need-loop-less Inv-loop μ-loop
 loop-less c = search needs
 
--- src/lib.rt:81:5
 loop-again : tie.Need-loop-again Inv-loop μ-loop
 loop-again c = let l = c .before .before .before .before in let e = l .before in let s = e .before .before .before .args .name .now in
     let d = sym (c .before .is-digit .ensures) ∙ not-false _ (c .if3 .left) in
@@ -81,23 +67,19 @@ loop-again c = let l = c .before .before .before .before in let e = l .before in
     let z : l .loop .i + 1 - 5 ≡ suc (l .loop .i - 5) = omega arith in
     (omega arith, omega arith, rw z (digits-fit (l .loop .i - 5) (l .loop .n) _ (l .loop .inv .2) (digit-is _ d)), l .loop .inv .3 ∙ digits-more s (l .loop .i) t d, l .loop .inv .4 ∙ worth-more s (l .loop .i) t (l .loop .n))
 
--- src/lib.rt:90:9
 returns-4 : tie.Need-returns-4 Inv-loop μ-loop
 returns-4 c = let l = c .before .before in let e = l .before in let s = e .before .before .before .args .name .now in
     let w : worth 0 (drop 5 s) ≡ l .loop .n = l .loop .inv .4 ∙ worth-end s (l .loop .i) (l .loop .n) (c .before .loop-test .left) in
     sym (too-small s (e .before .if1 .left) (e .if2 .left) (l .loop .inv .3 ∙ digits-end s (l .loop .i) (c .before .loop-test .left)) (rw w (c .if4 .taken)))
 
--- src/lib.rt:92:31
 cast-if5 : tie.Need-cast-if5 Inv-loop μ-loop
 cast-if5 c = let l = c .before .before in let f = five-fit (l .loop .i - 5) (l .loop .n) (omega arith) (l .loop .inv .2) in omega arith
 
--- src/lib.rt:93:9
 returns-5 : tie.Need-returns-5 Inv-loop μ-loop
 returns-5 c = let l = c .before .before .before in let e = l .before in let s = e .before .before .before .args .name .now in
     let w : worth 0 (drop 5 s) ≡ l .loop .n = l .loop .inv .4 ∙ worth-end s (l .loop .i) (l .loop .n) (c .before .before .loop-test .left) in
     sym (too-great s (e .before .if1 .left) (e .if2 .left) (l .loop .inv .3 ∙ digits-end s (l .loop .i) (c .before .before .loop-test .left)) (rw w (c .before .if4 .left)) (rw w (c .if5 .taken)))
 
--- src/lib.rt:70:1
 returns-6 : tie.Need-returns-6 Inv-loop μ-loop
 returns-6 c = let l = c .before .before .before in let e = l .before in let s = e .before .before .before .args .name .now in
     let w : worth 0 (drop 5 s) ≡ l .loop .n = l .loop .inv .4 ∙ worth-end s (l .loop .i) (l .loop .n) (c .before .before .loop-test .left) in

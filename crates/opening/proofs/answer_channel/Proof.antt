@@ -6,19 +6,15 @@ use Rattle.opening.proofs.answer_channel.Reads as reads
 use Rattle.opening.proofs.answer_channel.Lts as lts
 use Rattle.words.proofs.put.Reads as put-reads
 
--- src/lib.rt:51:5
 put-requires : tie.Need-put-requires
 put-requires c κs = search needs
 
--- src/lib.rt:52:5
 put-requires-2 : tie.Need-put-requires-2
 put-requires-2 c κs = search needs
 
--- src/lib.rt:48:1
 same-length : tie.Need-same-length
 same-length c = search needs
 
--- src/lib.rt:48:1
 returns : tie.Need-returns
 unfolding channel-registers
 returns c = rw (c .before .before .put2 .ensures, c .before .before .before .before .before .before .put .ensures)

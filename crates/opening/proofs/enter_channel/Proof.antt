@@ -8,23 +8,18 @@ use Rattle.calls.proofs.put_field.Reads as put-field-reads
 use Rattle.entering.proofs.enter.Reads as enter-reads
 use Rattle.rooms.proofs.header_byte.Reads as header-byte-reads
 
--- src/lib.rt:43:56
 header-byte-requires : tie.Need-header-byte-requires
 header-byte-requires c κs = search needs
 
--- src/lib.rt:43:5
 enter-requires : tie.Need-enter-requires
 enter-requires c κs = search needs
 
--- src/lib.rt:44:5
 put-field-requires : tie.Need-put-field-requires
 put-field-requires c κs = search needs
 
--- src/lib.rt:39:1
 same-length : tie.Need-same-length
 same-length c = search needs
 
--- src/lib.rt:39:1
 returns : tie.Need-returns
 unfolding channelled
 returns c = let d = c .before .before in let e = d .before .before .before .before in

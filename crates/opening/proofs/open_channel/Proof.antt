@@ -65,179 +65,137 @@ below c =
     let L = areas-lie-in-a-sound-picture (s .args .p .now) (s .pre) Heap .small in
     omega (arith, t .1 .1)
 
--- src/lib.rt:60:40
 word-requires : tie.Need-word-requires
 word-requires c κs = search needs
 
--- src/lib.rt:60:9
 number-meant-requires : tie.Need-number-meant-requires
 number-meant-requires c κs = search needs
 
--- src/lib.rt:62:27
 job-at-requires : tie.Need-job-at-requires
 job-at-requires c κs = search needs
 
 enum-told : tie.Need-enum-told
 enum-told c = search needs
 
--- src/lib.rt:63:9
 enum-told-2 : tie.Need-enum-told-2
 enum-told-2 c = search needs
 
--- src/lib.rt:63:9
 same-length : tie.Need-same-length
 same-length c = search needs
 
--- src/lib.rt:63:9
 same-length-2 : tie.Need-same-length-2
 same-length-2 c = search needs
 
--- src/lib.rt:63:9
 returns : tie.Need-returns
 returns c = let j = c .before .before in meets-refuse _ _ _ _ (open-dead _ _ _ (dead-is-not-live _ _ (rw (owner (j .before .before)) at (sym (j .job-at .ensures) ∙ c .enum-told2 .given .1))))
 
--- src/lib.rt:65:9
 read-name-requires : tie.Need-read-name-requires
 read-name-requires c κs = search needs
 
--- src/lib.rt:66:9
 is-good-requires : tie.Need-is-good-requires
 is-good-requires c κs = search needs
 
--- src/lib.rt:67:9
 key-of-requires : tie.Need-key-of-requires
 key-of-requires c κs = search needs
 
--- src/lib.rt:67:9
 same-length-3 : tie.Need-same-length-3
 same-length-3 c = search needs
 
--- src/lib.rt:67:9
 same-length-4 : tie.Need-same-length-4
 same-length-4 c = search needs
 
--- src/lib.rt:67:9
 returns-2 : tie.Need-returns-2
 returns-2 c = let t = c .before in let g = t .before in let r = g .before in
     open-misnamed _ _ _ (lives (r .before)) _ (rw (r .read-name .ensures) at (sym (g .is-good .ensures) ∙ not-true _ (t .if1 .taken))) (toZ-ofZ w32 (c .key-of .result) (record { sfits = c .key-of .ok }) ∙ c .key-of .ensures ∙ ap key-of (r .read-name .ensures))
 
--- src/lib.rt:69:9
 free-position-requires : tie.Need-free-position-requires
 free-position-requires c κs = search needs
 
--- src/lib.rt:71:9
 same-length-5 : tie.Need-same-length-5
 same-length-5 c = search needs
 
--- src/lib.rt:71:9
 same-length-6 : tie.Need-same-length-6
 same-length-6 c = search needs
 
--- src/lib.rt:71:9
 returns-3 : tie.Need-returns-3
 returns-3 c = let f = c .before in let x = f .before .before in
     meets-refuse _ _ _ _ (open-no-position _ _ _ (lives (x .before .before .before)) (fair x) (rw (f .free-position .ensures .0) at (c .if2 .taken)))
 
--- src/lib.rt:73:24
 last-of-requires : tie.Need-last-of-requires
 last-of-requires c κs = search needs
 
--- src/lib.rt:73:9
 word-requires-2 : tie.Need-word-requires-2
 word-requires-2 c κs = search needs
 
--- src/lib.rt:75:9
 same-length-7 : tie.Need-same-length-7
 same-length-7 c = search needs
 
--- src/lib.rt:75:9
 same-length-8 : tie.Need-same-length-8
 same-length-8 c = search needs
 
--- src/lib.rt:75:9
 returns-4 : tie.Need-returns-4
 returns-4 c = let w = c .before in let y = w .before .before .before in let x = y .before .before .before in
     meets-refuse _ _ _ _ (open-no-tag _ _ _ (lives (x .before .before .before)) (fair x) (free y) (rw (w .word2 .ensures, w .before .last-of .ensures) at (c .if3 .taken)))
 
--- src/lib.rt:77:9
 number-in-requires : tie.Need-number-in-requires
 number-in-requires c κs = search needs
 
--- src/lib.rt:78:39
 cast-round-up : tie.Need-cast-round-up
 cast-round-up c = search needs
 
--- src/lib.rt:78:34
 add-round-up : tie.Need-add-round-up
 add-round-up c = search needs
 
--- src/lib.rt:78:9
 round-up-requires : tie.Need-round-up-requires
 round-up-requires c κs = search needs
 
--- src/lib.rt:79:28
 place-in-requires : tie.Need-place-in-requires
 place-in-requires c κs = let s = c .before .before .before .before .before .before .before .before .before .before .before .before .before .before .before .before .before .before .before .before .before .before .before .before in areas-lie-in-a-sound-picture (s .args .p .now) (s .pre) Heap .inside
 
--- src/lib.rt:79:23
 enum-known-i : tie.Need-enum-known-i
 enum-known-i c = search needs
 
--- src/lib.rt:80:9
 enum-told-3 : tie.Need-enum-told-3
 enum-told-3 c = search needs
 
--- src/lib.rt:80:9
 same-length-9 : tie.Need-same-length-9
 same-length-9 c = search needs
 
--- src/lib.rt:80:9
 same-length-10 : tie.Need-same-length-10
 same-length-10 c = search needs
 
--- src/lib.rt:80:9
 returns-5 : tie.Need-returns-5
 returns-5 c = let P = c .before .before .before .before in let u = P .before .before in let n = u .before in let z = n .before in let w = z .before in let y = w .before .before .before in let x = y .before .before .before in let r = x .before .before in
     open-nowhere _ _ _ (lives (r .before)) (fair x) (free y) (tagged z) (n .number-in .result) _ _ (n .number-in .ensures ∙ ap number-in (r .read-name .ensures)) (owner (r .before .before .before .before .before)) (u .round-up .ensures) _ (P .place-in .ensures .leaves) (sym (P .place-in .ensures .answers) ∙ c .enum-told3 .given .1)
 
--- src/lib.rt:82:12
 add-put : tie.Need-add-put
 add-put c = omega (arith, below (c .before))
 
--- src/lib.rt:82:5
 put-requires : tie.Need-put-requires
 put-requires c κs = search needs
 
--- src/lib.rt:83:25
 add-enter-channel : tie.Need-add-enter-channel
 add-enter-channel c = search needs
 
--- src/lib.rt:83:5
 enter-channel-requires : tie.Need-enter-channel-requires
 enter-channel-requires c κs = let K = c .before .before .before .before .before in let P = K .before .before .before .before .before in let z = P .before .before .before .before in let w = z .before in let y = w .before .before .before in
     ((y .if2 .left, omega (arith, z .if3 .left)), below K)
 
--- src/lib.rt:84:49
 add-number-of : tie.Need-add-number-of
 add-number-of c = search needs
 
--- src/lib.rt:84:30
 number-of-requires : tie.Need-number-of-requires
 number-of-requires c κs = search needs
 
--- src/lib.rt:84:5
 answer-channel-requires : tie.Need-answer-channel-requires
 answer-channel-requires c κs = search needs
 
--- src/lib.rt:56:1
 same-length-11 : tie.Need-same-length-11
 same-length-11 c = search needs
 
--- src/lib.rt:56:1
 same-length-12 : tie.Need-same-length-12
 same-length-12 c = search needs
 
--- src/lib.rt:56:1
 returns-6 : tie.Need-returns-6
 returns-6 c = let a = c .before .before in let m = a .before in let E = m .before .before .before .before in let U = E .before .before .before .before in let K = U .before .before in
     let P = K .before .before .before .before .before in let u = P .before .before in let n = u .before in let z = n .before in let w = z .before in let y = w .before .before .before in let f = y .before in let x = f .before .before in let r = x .before .before in

@@ -6,31 +6,24 @@ use Rattle.picture.proofs.area_from.Reads as reads
 use Rattle.picture.proofs.area_from.Lts as lts
 use Rattle.words.proofs.word.Reads as word-reads
 
--- src/lib.rt:224:23
 enum-told : tie.Need-enum-told
 enum-told c = search needs
 
--- src/lib.rt:225:40
 enum-told-2 : tie.Need-enum-told-2
 enum-told-2 c = search needs
 
--- src/lib.rt:225:40
 word-requires : tie.Need-word-requires
 word-requires c κs = search needs
 
--- src/lib.rt:225:40
 cast-result : tie.Need-cast-result
 cast-result c = search needs
 
--- src/lib.rt:225:28
 add-result : tie.Need-add-result
 add-result c = search needs
 
--- src/lib.rt:220:1
 returns : tie.Need-returns
 returns c = search needs
 
--- src/lib.rt:220:1
 returns-2 : tie.Need-returns-2
 returns-2 c = (rw (c .before .enum-told2 .given .1, c .word .ensures), omega (arith, c .word .ok))
 

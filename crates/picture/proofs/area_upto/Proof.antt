@@ -6,39 +6,30 @@ use Rattle.picture.proofs.area_upto.Reads as reads
 use Rattle.picture.proofs.area_upto.Lts as lts
 use Rattle.words.proofs.word.Reads as word-reads
 
--- src/lib.rt:234:35
 enum-told : tie.Need-enum-told
 enum-told c = search needs
 
--- src/lib.rt:234:35
 word-requires : tie.Need-word-requires
 word-requires c κs = search needs
 
--- src/lib.rt:234:35
 cast-result : tie.Need-cast-result
 cast-result c = search needs
 
--- src/lib.rt:234:23
 add-result : tie.Need-add-result
 add-result c = search needs
 
--- src/lib.rt:235:28
 enum-told-2 : tie.Need-enum-told-2
 enum-told-2 c = search needs
 
--- src/lib.rt:235:28
 word-requires-2 : tie.Need-word-requires-2
 word-requires-2 c κs = search needs
 
--- src/lib.rt:235:28
 cast-result-2 : tie.Need-cast-result-2
 cast-result-2 c = search needs
 
--- src/lib.rt:230:1
 returns : tie.Need-returns
 returns c = (rw (c .before .enum-told .given .1, c .word .ensures), omega (arith, c .word .ok))
 
--- src/lib.rt:230:1
 returns-2 : tie.Need-returns-2
 returns-2 c = (rw (c .before .enum-told2 .given .1, c .word2 .ensures), omega (arith, c .word2 .ok))
 

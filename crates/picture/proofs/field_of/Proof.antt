@@ -6,19 +6,15 @@ use Rattle.picture.proofs.field_of.Lts as lts
 use Rattle.picture.proofs.slot_of.Reads as slot-of-reads
 use Rattle.words.proofs.word.Reads as word-reads
 
--- src/lib.rt:142:13
 slot-of-requires : tie.Need-slot-of-requires
 slot-of-requires c κs = search needs
 
--- src/lib.rt:142:13
 add-word : tie.Need-add-word
 add-word c = search needs
 
--- src/lib.rt:142:5
 word-requires : tie.Need-word-requires
 word-requires c κs = search needs
 
--- src/lib.rt:138:1
 returns : tie.Need-returns
 returns c = rw (c .word .ensures, c .before .slot-of .ensures .0)
 

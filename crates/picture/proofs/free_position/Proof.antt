@@ -10,19 +10,15 @@ use Rattle.picture.proofs.mask_of.Reads as mask-of-reads
 use Rattle.words.proofs.lowest_clear.Reads as lowest-clear-reads
 use Rattle.words.proofs.word.Reads as word-reads
 
--- src/lib.rt:216:33
 mask-of-requires : tie.Need-mask-of-requires
 mask-of-requires c κs = search needs
 
--- src/lib.rt:216:25
 word-requires : tie.Need-word-requires
 word-requires c κs = search needs
 
--- src/lib.rt:216:5
 lowest-clear-requires : tie.Need-lowest-clear-requires
 lowest-clear-requires c κs = search needs
 
--- src/lib.rt:213:1
 returns : tie.Need-returns
 unfolding free-position
 returns c = (rw (c .lowest-clear .ensures .0, c .before .word .ensures, c .before .before .mask-of .ensures, positions-same (c .before .before .before .before .args .t)), c .lowest-clear .ensures .1)

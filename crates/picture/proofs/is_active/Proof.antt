@@ -6,11 +6,9 @@ use Rattle.picture.proofs.is_active.Reads as reads
 use Rattle.picture.proofs.is_active.Lts as lts
 use Rattle.picture.proofs.field_of.Reads as field-of-reads
 
--- src/lib.rt:168:10
 field-of-requires : tie.Need-field-of-requires
 field-of-requires c κs = search needs
 
--- src/lib.rt:164:1
 returns : tie.Need-returns
 unfolding active
 returns c = rw (c .field-of .ensures)

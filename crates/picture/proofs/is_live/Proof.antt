@@ -10,24 +10,19 @@ use Rattle.picture.proofs.is_live.Lts as lts
 use Rattle.picture.proofs.field_of.Reads as field-of-reads
 use Rattle.picture.proofs.is_used.Reads as is-used-reads
 
--- src/lib.rt:183:13
 cast-k : tie.Need-cast-k
 cast-k c = search needs
 
--- src/lib.rt:184:9
 is-used-requires : tie.Need-is-used-requires
 is-used-requires c κs = search needs
 
--- src/lib.rt:185:9
 returns : tie.Need-returns
 unfolding live
 returns c = rw (sym (c .before .is-used .ensures) ∙ not-true _ (c .if1 .taken))
 
--- src/lib.rt:187:5
 field-of-requires : tie.Need-field-of-requires
 field-of-requires c κs = (used-below _ _ _ (sym (c .before .is-used .ensures) ∙ not-false _ (c .if1 .left)), search needs)
 
--- src/lib.rt:180:1
 returns-2 : tie.Need-returns-2
 unfolding live
 returns-2 c = rw (c .field-of .ensures, sym (c .before .before .is-used .ensures) ∙ not-false _ (c .before .if1 .left))

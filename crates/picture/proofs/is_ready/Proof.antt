@@ -6,15 +6,12 @@ use Rattle.picture.proofs.is_ready.Reads as reads
 use Rattle.picture.proofs.is_ready.Lts as lts
 use Rattle.picture.proofs.field_of.Reads as field-of-reads
 
--- src/lib.rt:160:11
 field-of-requires : tie.Need-field-of-requires
 field-of-requires c κs = search needs
 
--- src/lib.rt:160:53
 field-of-requires-2 : tie.Need-field-of-requires-2
 field-of-requires-2 c κs = search needs
 
--- src/lib.rt:156:1
 returns : tie.Need-returns
 unfolding ready
 returns c = rw (c .field-of2 .ensures, c .before .field-of .ensures)

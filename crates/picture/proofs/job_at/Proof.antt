@@ -7,20 +7,16 @@ use Rattle.picture.proofs.job_at.Reads as reads
 use Rattle.picture.proofs.job_at.Lts as lts
 use Rattle.picture.proofs.is_live.Reads as is-live-reads
 
--- src/lib.rt:195:8
 is-live-requires : tie.Need-is-live-requires
 is-live-requires c κs = search needs
 
--- src/lib.rt:196:29
 cast-t7 : tie.Need-cast-t7
 cast-t7 c = search needs
 
--- src/lib.rt:196:9
 returns : tie.Need-returns
 unfolding job-at
 returns c = rw (sym (c .before .is-live .ensures) ∙ c .if1 .taken)
 
--- src/lib.rt:191:1
 returns-2 : tie.Need-returns-2
 unfolding job-at
 returns-2 c = rw (sym (c .before .is-live .ensures) ∙ c .if1 .left)

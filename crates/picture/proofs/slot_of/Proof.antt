@@ -10,35 +10,27 @@ use Rattle.picture.proofs.slot_of.Tie as tie
 use Rattle.picture.proofs.slot_of.Reads as reads
 use Rattle.picture.proofs.slot_of.Lts as lts
 
--- src/lib.rt:132:36
 enum-told : tie.Need-enum-told
 enum-told c = search needs
 
--- src/lib.rt:132:36
 mul-result : tie.Need-mul-result
 mul-result c = let l = rw (c .enum-told .given .1) at (c .before .before .pre) in omega arith
 
--- src/lib.rt:132:24
 add-result : tie.Need-add-result
 add-result c = let l = rw (c .enum-told .given .1) at (c .before .before .pre) in omega arith
 
--- src/lib.rt:133:44
 enum-told-2 : tie.Need-enum-told-2
 enum-told-2 c = search needs
 
--- src/lib.rt:133:44
 mul-result-2 : tie.Need-mul-result-2
 mul-result-2 c = let l = rw (c .enum-told2 .given .1) at (c .before .before .pre) in omega arith
 
--- src/lib.rt:133:28
 add-result-2 : tie.Need-add-result-2
 add-result-2 c = let l = rw (c .enum-told2 .given .1) at (c .before .before .pre) in omega arith
 
--- src/lib.rt:127:1
 returns : tie.Need-returns
 returns c = let l = rw (c .enum-told .given .1) at (c .before .before .pre) in (rw (c .enum-told .given .1), rw (c .enum-told .given .1) (omega arith))
 
--- src/lib.rt:127:1
 returns-2 : tie.Need-returns-2
 returns-2 c = let l = rw (c .enum-told2 .given .1) at (c .before .before .pre) in (rw (c .enum-told2 .given .1), rw (c .enum-told2 .given .1) (omega arith))
 

@@ -20,23 +20,18 @@ Inv-loop p base e n i₀ i = first (fits p n) e (starts p base e) ≡ first (fit
 abbrev μ-loop : tie.MeasureT-loop
 μ-loop p base e n i₀ i = e - i
 
--- src/lib.rt:33:5
 loop-holds : tie.Need-loop-holds Inv-loop μ-loop
 loop-holds c = refl
 
--- src/lib.rt:34:12
 is-fit-requires : tie.Need-is-fit-requires Inv-loop μ-loop
 is-fit-requires c κs = search needs
 
--- src/lib.rt:37:9
 next-block-requires : tie.Need-next-block-requires Inv-loop μ-loop
 next-block-requires c κs = search needs
 
--- src/lib.rt:33:5
 loop-less : tie.Need-loop-less Inv-loop μ-loop
 loop-less c = next-falls _ _ _ _ (c .next-block .ensures) (c .before .before .before .loop-test .taken)
 
--- src/lib.rt:33:5
 loop-again : tie.Need-loop-again Inv-loop μ-loop
 loop-again c = let f = c .before .before in
     let l = f .before in
@@ -44,7 +39,6 @@ loop-again c = let f = c .before .before in
     ∙ first-more _ _ _ _ (l .loop-test .taken) (sym (f .is-fit .ensures) ∙ c .before .if1 .left)
     ∙ rw (c .next-block .ensures)
 
--- src/lib.rt:40:9
 returns : tie.Need-returns Inv-loop μ-loop
 unfolding chosen
 returns c = let l = c .before .before in
@@ -55,7 +49,6 @@ returns c = let l = c .before .before in
     (λ v. first-here _ _ _ _ (v .0 .taken) (sym (v .1 .ensures) ∙ v .2 .taken))
     (c .before .loop-test .came))
 
--- src/lib.rt:29:1
 returns-2 : tie.Need-returns-2 Inv-loop μ-loop
 unfolding chosen
 returns-2 c = sym (c .before .before .loop .inv ∙ first-end _ _ _ _ (c .if2 .left))

@@ -6,23 +6,18 @@ use Rattle.placing.proofs.is_fit.Reads as reads
 use Rattle.placing.proofs.is_fit.Lts as lts
 use Rattle.words.proofs.word.Reads as word-reads
 
--- src/lib.rt:25:14
 add-word : tie.Need-add-word
 add-word c = search needs
 
--- src/lib.rt:25:6
 word-requires : tie.Need-word-requires
 word-requires c κs = search needs
 
--- src/lib.rt:25:38
 word-requires-2 : tie.Need-word-requires-2
 word-requires-2 c κs = search needs
 
--- src/lib.rt:25:38
 cast-result : tie.Need-cast-result
 cast-result c = search needs
 
--- src/lib.rt:21:1
 returns : tie.Need-returns
 unfolding fits
 returns c = rw (c .word2 .ensures, c .before .word .ensures)

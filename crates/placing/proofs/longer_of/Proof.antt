@@ -6,24 +6,19 @@ use Rattle.placing.proofs.longer_of.Reads as reads
 use Rattle.placing.proofs.longer_of.Lts as lts
 use Rattle.words.proofs.word.Reads as word-reads
 
--- src/lib.rt:84:9
 word-requires : tie.Need-word-requires
 word-requires c κs = search needs
 
--- src/lib.rt:85:17
 add-word : tie.Need-add-word
 add-word c = search needs
 
--- src/lib.rt:85:9
 word-requires-2 : tie.Need-word-requires-2
 word-requires-2 c κs = search needs
 
--- src/lib.rt:86:9
 returns : tie.Need-returns
 unfolding longer
 returns c = let w = c .before .before in rw (← w .word .ensures, ← c .before .word2 .ensures, c .if1 .taken)
 
--- src/lib.rt:80:1
 returns-2 : tie.Need-returns-2
 unfolding longer
 returns-2 c = let w = c .before .before in rw (← w .word .ensures, ← c .before .word2 .ensures, c .if1 .left)

@@ -18,27 +18,21 @@ Inv-loop p base e best₀ i₀ best i = longest-of p 0 (starts p base e) ≡ lon
 abbrev μ-loop : tie.MeasureT-loop
 μ-loop p base e best₀ i₀ best i = e - i
 
--- src/lib.rt:97:5
 loop-holds : tie.Need-loop-holds Inv-loop μ-loop
 loop-holds c = refl
 
--- src/lib.rt:98:9
 longer-of-requires : tie.Need-longer-of-requires Inv-loop μ-loop
 longer-of-requires c κs = search needs
 
--- src/lib.rt:99:9
 next-block-requires : tie.Need-next-block-requires Inv-loop μ-loop
 next-block-requires c κs = search needs
 
--- src/lib.rt:97:5
 loop-less : tie.Need-loop-less Inv-loop μ-loop
 loop-less c = next-falls _ _ _ _ (c .next-block .ensures) (c .before .before .loop-test .taken)
 
--- src/lib.rt:97:5
 loop-again : tie.Need-loop-again Inv-loop μ-loop
 loop-again c = let l = c .before .before in l .before .loop .inv ∙ longest-more _ _ _ _ (l .loop-test .taken) ∙ rw (c .next-block .ensures, c .before .longer-of .ensures)
 
--- src/lib.rt:92:1
 returns : tie.Need-returns Inv-loop μ-loop
 unfolding longest
 returns c = sym (c .before .loop .inv ∙ longest-end _ _ _ _ (c .loop-test .left))

@@ -11,11 +11,9 @@ use Rattle.placing.proofs.place.Lts as lts
 use Rattle.placing.proofs.choose.Reads as choose-reads
 use Rattle.placing.proofs.place_at.Reads as place-at-reads
 
--- src/lib.rt:70:9
 choose-requires : tie.Need-choose-requires
 choose-requires c κs = search needs
 
--- src/lib.rt:72:25
 cast-place-at : tie.Need-cast-place-at
 cast-place-at c = let t = c .before in
     let a = t .before in
@@ -24,15 +22,12 @@ cast-place-at c = let t = c .before in
     let h = chosen-is-free-and-enough _ _ _ _ l .enough in
     omega (arith, s .slice-known .given (chosen (s .before .args .p .now) (s .before .args .base) (s .before .args .e) (s .before .args .n)))
 
--- src/lib.rt:72:9
 place-at-requires : tie.Need-place-at-requires
 place-at-requires c κs = search needs
 
--- src/lib.rt:73:9
 same-length : tie.Need-same-length
 same-length c = search needs
 
--- src/lib.rt:73:9
 returns : tie.Need-returns
 unfolding answer after
 returns c = let t = c .before .before .before .before in
@@ -40,11 +35,9 @@ returns c = let t = c .before .before .before .before in
     let h = lt-ltb _ _ (t .if1 .taken) in
     record { answers = simp (← q, h); leaves = rw (c .before .before .place-at .ensures) (simp (← q, h)) }
 
--- src/lib.rt:66:1
 same-length-2 : tie.Need-same-length-2
 same-length-2 c = search needs
 
--- src/lib.rt:66:1
 returns-2 : tie.Need-returns-2
 unfolding answer after
 returns-2 c = let q = c .before .choose .ensures in

@@ -9,35 +9,27 @@ use Rattle.headers.proofs.put_header.Reads as put-header-reads
 use Rattle.placing.proofs.split_block.Reads as split-block-reads
 use Rattle.words.proofs.clear.Reads as clear-reads
 
--- src/lib.rt:61:5
 split-block-requires : tie.Need-split-block-requires
 split-block-requires c κs = search needs
 
--- src/lib.rt:62:5
 put-header-requires : tie.Need-put-header-requires
 put-header-requires c κs = search needs
 
--- src/lib.rt:63:14
 add-clear : tie.Need-add-clear
 add-clear c = search needs
 
--- src/lib.rt:63:30
 cast-clear : tie.Need-cast-clear
 cast-clear c = search needs
 
--- src/lib.rt:63:26
 add-clear-2 : tie.Need-add-clear-2
 add-clear-2 c = search needs
 
--- src/lib.rt:63:5
 clear-requires : tie.Need-clear-requires
 clear-requires c κs = search needs
 
--- src/lib.rt:57:1
 same-length : tie.Need-same-length
 same-length c = search needs
 
--- src/lib.rt:57:1
 returns : tie.Need-returns
 unfolding placed
 returns c = let x = c .before .before in

@@ -8,41 +8,32 @@ use Rattle.placing.proofs.split_block.Lts as lts
 use Rattle.headers.proofs.put_header.Reads as put-header-reads
 use Rattle.words.proofs.word.Reads as word-reads
 
--- src/lib.rt:50:9
 word-requires : tie.Need-word-requires
 word-requires c κs = search needs
 
--- src/lib.rt:52:27
 cast-put-header : tie.Need-cast-put-header
 cast-put-header c = search needs
 
--- src/lib.rt:52:23
 add-put-header : tie.Need-add-put-header
 add-put-header c = search needs
 
--- src/lib.rt:52:45
 sub-put-header : tie.Need-sub-put-header
 sub-put-header c = search needs
 
--- src/lib.rt:52:9
 put-header-requires : tie.Need-put-header-requires
 put-header-requires c κs = search needs
 
--- src/lib.rt:46:1
 same-length : tie.Need-same-length
 same-length c = search needs
 
--- src/lib.rt:46:1
 returns : tie.Need-returns
 unfolding split
 returns c = let h = c .before .before in
     rw (h .put-header .ensures) (simp (← h .before .before .before .word .ensures, lt-ltb _ _ (h .before .before .if1 .taken)))
 
--- src/lib.rt:46:1
 same-length-2 : tie.Need-same-length-2
 same-length-2 c = search needs
 
--- src/lib.rt:46:1
 returns-2 : tie.Need-returns-2
 unfolding split
 returns-2 c = simp (← c .before .word .ensures, le-ltb _ _ (c .if1 .left))

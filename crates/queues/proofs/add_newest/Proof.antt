@@ -11,23 +11,18 @@ use Rattle.queues.proofs.write_byte.Reads as write-byte-reads
 use Rattle.words.proofs.put.Reads as put-reads
 use Rattle.words.proofs.word.Reads as word-reads
 
--- src/lib.rt:104:25
 add-word : tie.Need-add-word
 add-word c = search needs
 
--- src/lib.rt:104:9
 word-requires : tie.Need-word-requires
 word-requires c κs = search needs
 
--- src/lib.rt:105:28
 cast-index-of : tie.Need-cast-index-of
 cast-index-of c = search needs
 
--- src/lib.rt:105:9
 index-of-requires : tie.Need-index-of-requires
 index-of-requires c κs = search needs
 
--- src/lib.rt:106:5
 write-byte-requires : tie.Need-write-byte-requires
 write-byte-requires c = λ _. let w = c .before in let s = w .before .before .before .before .before in let R = s .pre .1 .0 in
     let m = R .most in
@@ -35,23 +30,18 @@ write-byte-requires c = λ _. let w = c .before in let s = w .before .before .be
     let x = index-below (s .args .p .now) (s .args .i) R _ h in
     ((s .pre .0 .0, rw (w .index-of .ensures, w .before .before .word .ensures) (omega arith)), s .pre .0 .1)
 
--- src/lib.rt:107:12
 add-put : tie.Need-add-put
 add-put c = search needs
 
--- src/lib.rt:107:23
 add-put-2 : tie.Need-add-put-2
 add-put-2 c = search needs
 
--- src/lib.rt:107:5
 put-requires : tie.Need-put-requires
 put-requires c κs = search needs
 
--- src/lib.rt:100:1
 same-length : tie.Need-same-length
 same-length c = search needs
 
--- src/lib.rt:100:1
 returns : tie.Need-returns
 unfolding sent
 returns c = let d = c .before .before in let e = d .before .before .before .before in let f = e .before .before in

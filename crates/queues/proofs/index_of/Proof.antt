@@ -8,40 +8,31 @@ use Rattle.queues.proofs.index_of.Reads as reads
 use Rattle.queues.proofs.index_of.Lts as lts
 use Rattle.words.proofs.word.Reads as word-reads
 
--- src/lib.rt:56:21
 add-word : tie.Need-add-word
 add-word c = search needs
 
--- src/lib.rt:56:13
 word-requires : tie.Need-word-requires
 word-requires c κs = search needs
 
--- src/lib.rt:56:13
 cast-n : tie.Need-cast-n
 cast-n c = search needs
 
--- src/lib.rt:57:21
 add-word-2 : tie.Need-add-word-2
 add-word-2 c = search needs
 
--- src/lib.rt:57:13
 word-requires-2 : tie.Need-word-requires-2
 word-requires-2 c κs = search needs
 
--- src/lib.rt:57:13
 cast-x : tie.Need-cast-x
 cast-x c = search needs
 
--- src/lib.rt:57:13
 add-x : tie.Need-add-x
 add-x c = search needs
 
--- src/lib.rt:59:9
 returns : tie.Need-returns
 unfolding index
 returns c = rw (c .before .word2 .ensures) (sym (round-below _ _ (rw (c .before .word2 .ensures, c .before .before .word .ensures) at (c .if1 .taken))))
 
--- src/lib.rt:52:1
 returns-2 : tie.Need-returns-2
 unfolding index
 returns-2 c = rw (c .before .word2 .ensures, c .before .before .word .ensures) (sym (round-above _ _ (rw (c .before .word2 .ensures, c .before .before .word .ensures) at (c .if1 .left))))

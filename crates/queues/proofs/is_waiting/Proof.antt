@@ -6,15 +6,12 @@ use Rattle.queues.proofs.is_waiting.Reads as reads
 use Rattle.queues.proofs.is_waiting.Lts as lts
 use Rattle.words.proofs.word.Reads as word-reads
 
--- src/lib.rt:69:18
 add-word : tie.Need-add-word
 add-word c = search needs
 
--- src/lib.rt:69:10
 word-requires : tie.Need-word-requires
 word-requires c κs = search needs
 
--- src/lib.rt:65:1
 returns : tie.Need-returns
 unfolding waits
 returns c = rw (c .word .ensures)

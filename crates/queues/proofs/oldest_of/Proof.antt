@@ -7,23 +7,18 @@ use Rattle.queues.proofs.oldest_of.Lts as lts
 use Rattle.queues.proofs.read_byte.Reads as read-byte-reads
 use Rattle.words.proofs.word.Reads as word-reads
 
--- src/lib.rt:85:29
 add-word : tie.Need-add-word
 add-word c = search needs
 
--- src/lib.rt:85:21
 word-requires : tie.Need-word-requires
 word-requires c κs = search needs
 
--- src/lib.rt:85:21
 cast-read-byte : tie.Need-cast-read-byte
 cast-read-byte c = search needs
 
--- src/lib.rt:85:5
 read-byte-requires : tie.Need-read-byte-requires
 read-byte-requires c κs = search needs
 
--- src/lib.rt:81:1
 returns : tie.Need-returns
 unfolding oldest-byte
 returns c = rw (c .read-byte .ensures, c .before .word .ensures)

@@ -8,27 +8,21 @@ use Rattle.queues.proofs.read_byte.Lts as lts
 use Rattle.queues.proofs.weight_of.Reads as weight-of-reads
 use Rattle.words.proofs.word.Reads as word-reads
 
--- src/lib.rt:37:13
 add-word : tie.Need-add-word
 add-word c = search needs
 
--- src/lib.rt:37:13
 add-word-2 : tie.Need-add-word-2
 add-word-2 c = search needs
 
--- src/lib.rt:37:5
 word-requires : tie.Need-word-requires
 word-requires c κs = search needs
 
--- src/lib.rt:37:34
 weight-of-requires : tie.Need-weight-of-requires
 weight-of-requires c κs = search needs
 
--- src/lib.rt:37:5
 div-result : tie.Need-div-result
 div-result c = rw (c .weight-of .ensures) (weight-some _)
 
--- src/lib.rt:33:1
 returns : tie.Need-returns
 unfolding byte-at
 returns c = rw (c .weight-of .ensures, c .before .word .ensures)

@@ -10,23 +10,18 @@ use Rattle.queues.proofs.index_of.Reads as index-of-reads
 use Rattle.words.proofs.put.Reads as put-reads
 use Rattle.words.proofs.word.Reads as word-reads
 
--- src/lib.rt:93:9
 index-of-requires : tie.Need-index-of-requires
 index-of-requires c κs = search needs
 
--- src/lib.rt:94:25
 add-word : tie.Need-add-word
 add-word c = search needs
 
--- src/lib.rt:94:9
 word-requires : tie.Need-word-requires
 word-requires c κs = search needs
 
--- src/lib.rt:95:12
 add-put : tie.Need-add-put
 add-put c = search needs
 
--- src/lib.rt:95:24
 cast-put : tie.Need-cast-put
 cast-put c = let w = c .before .before .before in let s = w .before .before in let R = s .before .pre .1 .0 in
     let l = waits-some _ _ (s .before .pre .1 .1) in
@@ -35,27 +30,21 @@ cast-put c = let w = c .before .before .before in let s = w .before .before in l
     let x = index-below (s .before .args .p .now) (s .before .args .i) R 1 (omega arith) in
     rw (w .index-of .ensures) (omega arith)
 
--- src/lib.rt:95:5
 put-requires : tie.Need-put-requires
 put-requires c κs = search needs
 
--- src/lib.rt:96:12
 add-put-2 : tie.Need-add-put-2
 add-put-2 c = search needs
 
--- src/lib.rt:96:23
 sub-put : tie.Need-sub-put
 sub-put c = let w = c .before .before .before .before .before in rw (w .word .ensures) (waits-some _ _ (w .before .before .before .before .before .pre .1 .1))
 
--- src/lib.rt:96:5
 put-requires-2 : tie.Need-put-requires-2
 put-requires-2 c κs = search needs
 
--- src/lib.rt:89:1
 same-length : tie.Need-same-length
 same-length c = search needs
 
--- src/lib.rt:89:1
 returns : tie.Need-returns
 unfolding fetched
 returns c = let d = c .before .before in let e = d .before .before .before .before in let f = e .before .before in

@@ -8,22 +8,18 @@ use Rattle.queues.proofs.weight_of.Tie as tie
 use Rattle.queues.proofs.weight_of.Reads as reads
 use Rattle.queues.proofs.weight_of.Lts as lts
 
--- src/lib.rt:21:1
 returns : tie.Need-returns
 unfolding weight
 returns c = rw (c .match .keys1)
 
--- src/lib.rt:21:1
 returns-2 : tie.Need-returns-2
 unfolding weight
 returns-2 c = rw (c .match .keys2)
 
--- src/lib.rt:21:1
 returns-3 : tie.Need-returns-3
 unfolding weight
 returns-3 c = rw (c .match .keys3)
 
--- src/lib.rt:21:1
 returns-4 : tie.Need-returns-4
 unfolding weight
 returns-4 c = let r = c .match .rest in let z : c .before .args .j % 4 ≡ 3 = omega (arith, r .1, r .0 .1, r .0 .0 .1) in rw z

@@ -17,51 +17,39 @@ use Rattle.words.proofs.word.Reads as word-reads
 fits : (c : tie.After-put-arg) → Fits (c .before .before .word .result) (c .before .before .before .before .before .args .b) (weight (c .before .before .before .before .before .args .j))
 fits c = byte-fits _ _ _ _ (let l : c .before .before .word .result < 4294967296 = omega arith in l) (c .before .before .before .before .before .pre .1) (quarter _)
 
--- src/lib.rt:45:14
 add-at : tie.Need-add-at
 add-at c = search needs
 
--- src/lib.rt:45:14
 add-at-2 : tie.Need-add-at-2
 add-at-2 c = search needs
 
--- src/lib.rt:46:9
 word-requires : tie.Need-word-requires
 word-requires c κs = search needs
 
--- src/lib.rt:47:9
 weight-of-requires : tie.Need-weight-of-requires
 weight-of-requires c κs = search needs
 
--- src/lib.rt:48:20
 div-put : tie.Need-div-put
 div-put c = rw (c .before .weight-of .ensures) (fits c .some)
 
--- src/lib.rt:48:20
 mul-put : tie.Need-mul-put
 mul-put c = rw (c .before .weight-of .ensures) (let f = fits c .part in omega arith)
 
--- src/lib.rt:48:16
 sub-put : tie.Need-sub-put
 sub-put c = rw (c .before .weight-of .ensures) (fits c .part)
 
--- src/lib.rt:48:38
 mul-put-2 : tie.Need-mul-put-2
 mul-put-2 c = rw (c .before .weight-of .ensures) (record { fits = fits c .byte })
 
--- src/lib.rt:48:16
 add-put : tie.Need-add-put
 add-put c = rw (c .before .weight-of .ensures) (record { fits = fits c .whole })
 
--- src/lib.rt:48:5
 put-requires : tie.Need-put-requires
 put-requires c κs = search needs
 
--- src/lib.rt:41:1
 same-length : tie.Need-same-length
 same-length c = search needs
 
--- src/lib.rt:41:1
 returns : tie.Need-returns
 unfolding with-byte-at
 returns c = let d = c .before .before in let e = d .before .before in

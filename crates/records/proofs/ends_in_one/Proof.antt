@@ -6,11 +6,9 @@ use Rattle.records.proofs.ends_in_one.Reads as reads
 use Rattle.records.proofs.ends_in_one.Lts as lts
 use Rattle.tables.proofs.field_of.Reads as field-of-reads
 
--- src/lib.rt:71:5
 field-of-requires : tie.Need-field-of-requires
 field-of-requires c κs = search needs
 
--- src/lib.rt:67:1
 returns : tie.Need-returns
 unfolding ends-in-one
 returns c = rw (c .field-of .ensures, c .before .before .pre .1 .1)

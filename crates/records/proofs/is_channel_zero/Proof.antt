@@ -5,23 +5,18 @@ use Rattle.records.proofs.is_channel_zero.Reads as reads
 use Rattle.records.proofs.is_channel_zero.Lts as lts
 use Rattle.tables.proofs.field_of.Reads as field-of-reads
 
--- src/lib.rt:94:6
 field-of-requires : tie.Need-field-of-requires
 field-of-requires c κs = search needs
 
--- src/lib.rt:95:12
 field-of-requires-2 : tie.Need-field-of-requires-2
 field-of-requires-2 c κs = search needs
 
--- src/lib.rt:96:12
 field-of-requires-3 : tie.Need-field-of-requires-3
 field-of-requires-3 c κs = search needs
 
--- src/lib.rt:97:12
 field-of-requires-4 : tie.Need-field-of-requires-4
 field-of-requires-4 c κs = search needs
 
--- src/lib.rt:90:1
 returns : tie.Need-returns
 returns c = rw (c .field-of4 .ensures, c .before .field-of3 .ensures, c .before .before .field-of2 .ensures, c .before .before .before .field-of .ensures)
 

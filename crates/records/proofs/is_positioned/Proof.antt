@@ -8,15 +8,12 @@ use Rattle.records.proofs.is_positioned.Reads as reads
 use Rattle.records.proofs.is_positioned.Lts as lts
 use Rattle.tables.proofs.field_of.Reads as field-of-reads
 
--- src/lib.rt:105:6
 field-of-requires : tie.Need-field-of-requires
 field-of-requires c κs = let s = c .before in (s .pre .0, (s .pre .1 .0, shared (s .args .t) _ (omega arith)))
 
--- src/lib.rt:105:5
 cast-result : tie.Need-cast-result
 cast-result c = search needs
 
--- src/lib.rt:101:1
 returns : tie.Need-returns
 unfolding positioned
 returns c = rw (c .field-of .ensures, c .before .before .pre .1 .1)

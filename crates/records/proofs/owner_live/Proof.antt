@@ -10,24 +10,19 @@ use Rattle.records.proofs.may_be_unowned.Reads as may-be-unowned-reads
 use Rattle.tables.proofs.field_of.Reads as field-of-reads
 use Rattle.tables.proofs.is_live.Reads as is-live-reads
 
--- src/lib.rt:163:9
 field-of-requires : tie.Need-field-of-requires
 field-of-requires c κs = let s = c .before in (s .pre .0, (s .pre .1 .0, shared (s .args .t) _ (omega arith)))
 
--- src/lib.rt:164:19
 may-be-unowned-requires : tie.Need-may-be-unowned-requires
 may-be-unowned-requires c κs = search needs
 
--- src/lib.rt:166:9
 returns : tie.Need-returns
 unfolding owner-live
 returns c = rw (c .before .before .before .before .pre .1 .1, rw (c .before .may-be-unowned .ensures, c .before .before .field-of .ensures) at (c .if1 .taken))
 
--- src/lib.rt:168:5
 is-live-requires : tie.Need-is-live-requires
 is-live-requires c κs = search needs
 
--- src/lib.rt:159:1
 returns-2 : tie.Need-returns-2
 unfolding owner-live
 returns-2 c =

@@ -19,37 +19,30 @@ Inv-loop p t k j₀ j = (j ≤ k) × (every (tags-differ p t k) j ≡ true)
 abbrev μ-loop : tie.MeasureT-loop
 μ-loop p t k j₀ j = k - j
 
--- src/lib.rt:136:5
 loop-holds : tie.Need-loop-holds Inv-loop μ-loop
 loop-holds c = (omega arith, refl)
 
--- src/lib.rt:137:13
 tags-differ-requires : tie.Need-tags-differ-requires Inv-loop μ-loop
 tags-differ-requires c κs = let s = c .before .before .before in (s .pre .0, (s .pre .1, omega (arith, s .pre .1)))
 
--- src/lib.rt:138:13
 returns : tie.Need-returns Inv-loop μ-loop
 returns c =
     let l = c .before .before in
     let a = l .before .before .before .args in
     sym (every-not (tags-differ (a .p .now) (a .t) (a .k)) _ (l .before .loop .j) (l .loop-test .taken) (sym (c .before .tags-differ .ensures) ∙ not-true _ (c .if1 .taken)))
 
--- src/lib.rt:140:9
 add-j : tie.Need-add-j Inv-loop μ-loop
 add-j c = search needs
 
--- src/lib.rt:136:5
 loop-less : tie.Need-loop-less Inv-loop μ-loop
 loop-less c = search needs
 
--- src/lib.rt:136:5
 loop-again : tie.Need-loop-again Inv-loop μ-loop
 loop-again c =
     let l = c .before .before in
     let a = l .before .before .before .args in
     (omega arith, every-next (tags-differ (a .p .now) (a .t) (a .k)) (l .before .loop .j) (l .before .loop .inv .1) (sym (c .before .tags-differ .ensures) ∙ not-false _ (c .if1 .left)))
 
--- src/lib.rt:131:1
 returns-2 : tie.Need-returns-2 Inv-loop μ-loop
 returns-2 c =
     let d = c .before .loop in

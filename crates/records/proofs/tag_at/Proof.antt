@@ -7,11 +7,9 @@ use Rattle.records.proofs.tag_at.Reads as reads
 use Rattle.records.proofs.tag_at.Lts as lts
 use Rattle.tables.proofs.field_of.Reads as field-of-reads
 
--- src/lib.rt:30:5
 field-of-requires : tie.Need-field-of-requires
 field-of-requires c κs = let s = c .before in (s .pre .0, (s .pre .1, shared (s .args .t) _ (omega arith)))
 
--- src/lib.rt:26:1
 returns : tie.Need-returns
 returns c = search needs
 

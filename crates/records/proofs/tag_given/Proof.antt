@@ -9,19 +9,15 @@ use Rattle.picture.proofs.last_of.Reads as last-of-reads
 use Rattle.records.proofs.tag_at.Reads as tag-at-reads
 use Rattle.tables.proofs.word_at.Reads as word-at-reads
 
--- src/lib.rt:193:5
 tag-at-requires : tie.Need-tag-at-requires
 tag-at-requires c κs = search needs
 
--- src/lib.rt:193:43
 last-of-requires : tie.Need-last-of-requires
 last-of-requires c κs = search needs
 
--- src/lib.rt:193:24
 word-at-requires : tie.Need-word-at-requires
 word-at-requires c κs = let s = c .before .before .before in rw (c .last-of .ensures) (last-before (s .args .t) _ (s .pre .0))
 
--- src/lib.rt:189:1
 returns : tie.Need-returns
 unfolding tag-given
 returns c = rw (c .word-at .ensures, c .before .last-of .ensures, c .before .before .tag-at .ensures, c .before .before .before .before .pre .1 .1)

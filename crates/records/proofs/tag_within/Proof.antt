@@ -8,15 +8,12 @@ use Rattle.records.proofs.tag_within.Lts as lts
 use Rattle.matching.proofs.first_of.Reads as first-of-reads
 use Rattle.records.proofs.tag_at.Reads as tag-at-reads
 
--- src/lib.rt:121:9
 tag-at-requires : tie.Need-tag-at-requires
 tag-at-requires c κs = search needs
 
--- src/lib.rt:122:7
 first-of-requires : tie.Need-first-of-requires
 first-of-requires c κs = search needs
 
--- src/lib.rt:117:1
 returns : tie.Need-returns
 unfolding tag-within
 returns c = rw (c .first-of .ensures, c .before .tag-at .ensures, claims-used _ _ _ (c .before .before .before .pre .1 .1))

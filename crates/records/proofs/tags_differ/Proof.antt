@@ -7,19 +7,15 @@ use Rattle.records.proofs.tags_differ.Lts as lts
 use Rattle.records.proofs.tag_at.Reads as tag-at-reads
 use Rattle.tables.proofs.is_used.Reads as is-used-reads
 
--- src/lib.rt:130:6
 is-used-requires : tie.Need-is-used-requires
 is-used-requires c κs = search needs
 
--- src/lib.rt:130:26
 tag-at-requires : tie.Need-tag-at-requires
 tag-at-requires c κs = search needs
 
--- src/lib.rt:130:45
 tag-at-requires-2 : tie.Need-tag-at-requires-2
 tag-at-requires-2 c κs = search needs
 
--- src/lib.rt:126:1
 returns : tie.Need-returns
 unfolding tags-differ
 returns c = rw (c .tag-at2 .ensures, c .before .tag-at .ensures, c .before .before .is-used .ensures)

@@ -7,23 +7,18 @@ use Rattle.picture.proofs.area_from.Reads as area-from-reads
 use Rattle.picture.proofs.area_upto.Reads as area-upto-reads
 use Rattle.placing.proofs.place.Reads as place-reads
 
--- src/lib.rt:47:9
 area-from-requires : tie.Need-area-from-requires
 area-from-requires c κs = search needs
 
--- src/lib.rt:48:9
 area-upto-requires : tie.Need-area-upto-requires
 area-upto-requires c κs = search needs
 
--- src/lib.rt:49:5
 place-requires : tie.Need-place-requires
 place-requires c κs = search needs
 
--- src/lib.rt:36:1
 same-length : tie.Need-same-length
 same-length c = search needs
 
--- src/lib.rt:36:1
 returns : tie.Need-returns
 returns c = let h = c .before .before in let u = h .before .before in rw (u .before .before .area-from .ensures .0, u .area-upto .ensures .0) at (h .place .ensures)
 

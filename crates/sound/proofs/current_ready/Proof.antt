@@ -12,35 +12,28 @@ use Rattle.picture.proofs.is_live.Reads as is-live-reads
 use Rattle.picture.proofs.is_ready.Reads as is-ready-reads
 use Rattle.words.proofs.word.Reads as word-reads
 
--- src/lib.rt:66:9
 word-requires : tie.Need-word-requires
 word-requires c κs = search needs
 
--- src/lib.rt:68:9
 returns : tie.Need-returns
 unfolding current-ready
 returns c = rw (eq-eqb _ _ (rw (c .before .word .ensures) at (c .if1 .taken)))
 
--- src/lib.rt:70:9
 is-live-requires : tie.Need-is-live-requires
 is-live-requires c κs = search needs
 
--- src/lib.rt:71:9
 returns-2 : tie.Need-returns-2
 unfolding current-ready
 returns-2 c =
     let w = c .before .before .before in
     rw (ne-eqb _ _ (rw (w .word .ensures) at (c .before .before .if1 .left)), rw (w .word .ensures) at (sym (c .before .is-live .ensures) ∙ not-true _ (c .if2 .taken)))
 
--- src/lib.rt:73:26
 cast-is-ready : tie.Need-cast-is-ready
 cast-is-ready c = search needs
 
--- src/lib.rt:73:5
 is-ready-requires : tie.Need-is-ready-requires
 is-ready-requires c κs = used-below _ _ _ (live-is _ _ _ (sym (c .before .is-live .ensures) ∙ not-false _ (c .if2 .left)) .used)
 
--- src/lib.rt:63:1
 returns-3 : tie.Need-returns-3
 unfolding current-ready
 returns-3 c =

@@ -7,27 +7,21 @@ use Rattle.sound.proofs.heap_right.Lts as lts
 use Rattle.sound.proofs.heap_good.Reads as heap-good-reads
 use Rattle.words.proofs.word.Reads as word-reads
 
--- src/lib.rt:50:9
 word-requires : tie.Need-word-requires
 word-requires c κs = search needs
 
--- src/lib.rt:50:9
 cast-heap-good : tie.Need-cast-heap-good
 cast-heap-good c = search needs
 
--- src/lib.rt:51:9
 word-requires-2 : tie.Need-word-requires-2
 word-requires-2 c κs = search needs
 
--- src/lib.rt:51:9
 cast-heap-good-2 : tie.Need-cast-heap-good-2
 cast-heap-good-2 c = search needs
 
--- src/lib.rt:49:5
 heap-good-requires : tie.Need-heap-good-requires
 heap-good-requires c κs = search needs
 
--- src/lib.rt:46:1
 returns : tie.Need-returns
 unfolding heap-right
 returns c = rw (c .heap-good .ensures, c .before .word2 .ensures, c .before .before .word .ensures)

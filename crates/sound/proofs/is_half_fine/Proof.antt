@@ -12,51 +12,40 @@ use Rattle.picture.proofs.area_upto.Reads as area-upto-reads
 use Rattle.sound.proofs.area_of.Reads as area-of-reads
 use Rattle.walks.proofs.walk_blocks.Reads as walk-blocks-reads
 
--- src/lib.rt:102:9
 walk-entries-requires : tie.Need-walk-entries-requires
 walk-entries-requires c κs = tables-within _ (c .before .before .pre)
 
--- src/lib.rt:103:25
 enum-known-claims : tie.Need-enum-known-claims
 enum-known-claims c = search needs
 
--- src/lib.rt:104:9
 enum-told : tie.Need-enum-told
 enum-told c = search needs
 
--- src/lib.rt:104:9
 returns : tie.Need-returns
 unfolding half-fine
 returns c = rw (sym (c .before .before .walk-entries .ensures) ∙ c .enum-told .given .1)
 
--- src/lib.rt:106:9
 area-of-requires : tie.Need-area-of-requires
 area-of-requires c κs = search needs
 
--- src/lib.rt:110:9
 area-from-requires : tie.Need-area-from-requires
 area-from-requires c κs = search needs
 
--- src/lib.rt:111:9
 area-upto-requires : tie.Need-area-upto-requires
 area-upto-requires c κs = search needs
 
--- src/lib.rt:107:9
 walk-blocks-requires : tie.Need-walk-blocks-requires
 walk-blocks-requires c κs =
     let u = c .before in
     let s = u .before .before .before .before .before .before .before .before .before in
     (tables-within _ (s .pre), (rw (u .area-upto .ensures .0) (area-within _ (s .pre) (u .before .before .area-of .result)), u .area-upto .ensures .1))
 
--- src/lib.rt:114:25
 enum-known-found : tie.Need-enum-known-found
 enum-known-found c = search needs
 
--- src/lib.rt:115:9
 enum-told-2 : tie.Need-enum-told-2
 enum-told-2 c = search needs
 
--- src/lib.rt:115:9
 returns-2 : tie.Need-returns-2
 unfolding half-fine
 returns-2 c =
@@ -65,7 +54,6 @@ returns-2 c =
     let k = u .before .before .before .before in
     rw (sym (k .before .before .walk-entries .ensures) ∙ k .claims .given .1, sym (rw (u .area-upto .ensures .0, u .before .area-from .ensures .0, u .before .before .area-of .ensures) at (w .walk-blocks .ensures)) ∙ c .enum-told2 .given .1)
 
--- src/lib.rt:97:1
 returns-3 : tie.Need-returns-3
 unfolding half-fine
 returns-3 c =

@@ -10,31 +10,25 @@ use Rattle.sound.proofs.is_sound.Lts as lts
 use Rattle.sound.proofs.is_half_fine.Reads as is-half-fine-reads
 use Rattle.sound.proofs.is_whole_fine.Reads as is-whole-fine-reads
 
--- src/lib.rt:124:9
 is-whole-fine-requires : tie.Need-is-whole-fine-requires
 is-whole-fine-requires c κs = search needs
 
--- src/lib.rt:125:9
 returns : tie.Need-returns
 unfolding tested
 returns c = rw (← tested-is _, sym (c .before .is-whole-fine .ensures) ∙ not-true _ (c .if1 .taken))
 
--- src/lib.rt:127:9
 is-half-fine-requires : tie.Need-is-half-fine-requires
 is-half-fine-requires c κs = sym (c .before .is-whole-fine .ensures) ∙ not-false _ (c .if1 .left)
 
--- src/lib.rt:128:9
 returns-2 : tie.Need-returns-2
 unfolding tested
 returns-2 c =
     let b = c .before .before in
     rw (← tested-is _, sym (b .before .is-whole-fine .ensures) ∙ not-false _ (b .if1 .left), sym (c .before .is-half-fine .ensures) ∙ not-true _ (c .if2 .taken))
 
--- src/lib.rt:130:5
 is-half-fine-requires-2 : tie.Need-is-half-fine-requires-2
 is-half-fine-requires-2 c κs = let b = c .before .before in sym (b .before .is-whole-fine .ensures) ∙ not-false _ (b .if1 .left)
 
--- src/lib.rt:121:1
 returns-3 : tie.Need-returns-3
 unfolding tested
 returns-3 c =

@@ -10,31 +10,24 @@ use Rattle.sound.proofs.last_within.Reads as last-within-reads
 use Rattle.sound.proofs.size_right.Reads as size-right-reads
 use Rattle.sound.proofs.zero_right.Reads as zero-right-reads
 
--- src/lib.rt:80:5
 size-right-requires : tie.Need-size-right-requires
 size-right-requires c κs = search needs
 
--- src/lib.rt:81:12
 zero-right-requires : tie.Need-zero-right-requires
 zero-right-requires c κs = search needs
 
--- src/lib.rt:82:16
 heap-right-requires : tie.Need-heap-right-requires
 heap-right-requires c κs = search needs
 
--- src/lib.rt:83:20
 last-within-requires : tie.Need-last-within-requires
 last-within-requires c κs = search needs
 
--- src/lib.rt:84:24
 last-within-requires-2 : tie.Need-last-within-requires-2
 last-within-requires-2 c κs = search needs
 
--- src/lib.rt:84:58
 current-ready-requires : tie.Need-current-ready-requires
 current-ready-requires c κs = search needs
 
--- src/lib.rt:77:1
 returns : tie.Need-returns
 unfolding whole-fine
 returns c = rw (c .current-ready .ensures, c .before .last-within2 .ensures, c .before .before .last-within .ensures, c .before .before .before .heap-right .ensures, c .before .before .before .before .zero-right .ensures, c .before .before .before .before .before .size-right .ensures)

@@ -7,15 +7,12 @@ use Rattle.sound.proofs.last_within.Lts as lts
 use Rattle.picture.proofs.last_of.Reads as last-of-reads
 use Rattle.words.proofs.word.Reads as word-reads
 
--- src/lib.rt:59:13
 last-of-requires : tie.Need-last-of-requires
 last-of-requires c κs = search needs
 
--- src/lib.rt:59:5
 word-requires : tie.Need-word-requires
 word-requires c κs = search needs
 
--- src/lib.rt:56:1
 returns : tie.Need-returns
 unfolding last-within
 returns c = rw (c .word .ensures, c .before .last-of .ensures)

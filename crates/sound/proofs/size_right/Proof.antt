@@ -7,19 +7,15 @@ use Rattle.sound.proofs.size_right.Lts as lts
 use Rattle.sound.proofs.size_good.Reads as size-good-reads
 use Rattle.words.proofs.word.Reads as word-reads
 
--- src/lib.rt:35:6
 word-requires : tie.Need-word-requires
 word-requires c κs = search needs
 
--- src/lib.rt:35:6
 cast-result : tie.Need-cast-result
 cast-result c = search needs
 
--- src/lib.rt:35:57
 size-good-requires : tie.Need-size-good-requires
 size-good-requires c κs = search needs
 
--- src/lib.rt:32:1
 returns : tie.Need-returns
 unfolding size-right
 returns c = rw (c .size-good .ensures, c .before .word .ensures)

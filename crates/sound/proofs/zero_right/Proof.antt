@@ -6,11 +6,9 @@ use Rattle.sound.proofs.zero_right.Reads as reads
 use Rattle.sound.proofs.zero_right.Lts as lts
 use Rattle.words.proofs.word.Reads as word-reads
 
--- src/lib.rt:42:5
 word-requires : tie.Need-word-requires
 word-requires c κs = search needs
 
--- src/lib.rt:39:1
 returns : tie.Need-returns
 unfolding zero-right
 returns c = rw (c .word .ensures)

@@ -6,19 +6,15 @@ use Rattle.tables.proofs.field_of.Lts as lts
 use Rattle.picture.proofs.slot_of.Reads as slot-of-reads
 use Rattle.tables.proofs.word_at.Reads as word-at-reads
 
--- src/lib.rt:24:16
 slot-of-requires : tie.Need-slot-of-requires
 slot-of-requires c κs = search needs
 
--- src/lib.rt:24:16
 add-word-at : tie.Need-add-word-at
 add-word-at c = search needs
 
--- src/lib.rt:24:5
 word-at-requires : tie.Need-word-at-requires
 word-at-requires c κs = search needs
 
--- src/lib.rt:20:1
 returns : tie.Need-returns
 returns c = rw (c .word-at .ensures, c .before .slot-of .ensures .0)
 

@@ -12,24 +12,19 @@ use Rattle.tables.proofs.is_live.Lts as lts
 use Rattle.tables.proofs.field_of.Reads as field-of-reads
 use Rattle.tables.proofs.is_used.Reads as is-used-reads
 
--- src/lib.rt:43:13
 cast-k : tie.Need-cast-k
 cast-k c = search needs
 
--- src/lib.rt:44:9
 is-used-requires : tie.Need-is-used-requires
 is-used-requires c κs = search needs
 
--- src/lib.rt:45:9
 returns : tie.Need-returns
 unfolding live
 returns c = rw (sym (c .before .is-used .ensures) ∙ not-true _ (c .if1 .taken))
 
--- src/lib.rt:47:5
 field-of-requires : tie.Need-field-of-requires
 field-of-requires c κs = (c .before .before .before .pre, (used-below _ _ _ (sym (c .before .is-used .ensures) ∙ not-false _ (c .if1 .left)), shared (c .before .before .before .args .t) _ (omega arith)))
 
--- src/lib.rt:39:1
 returns-2 : tie.Need-returns-2
 unfolding live
 returns-2 c = rw (c .field-of .ensures, sym (c .before .before .is-used .ensures) ∙ not-false _ (c .before .if1 .left))

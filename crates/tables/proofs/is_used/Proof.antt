@@ -11,27 +11,21 @@ use Rattle.picture.proofs.positions_of.Reads as positions-of-reads
 use Rattle.tables.proofs.word_at.Reads as word-at-reads
 use Rattle.words.proofs.is_set.Reads as is-set-reads
 
--- src/lib.rt:32:8
 positions-of-requires : tie.Need-positions-of-requires
 positions-of-requires c κs = search needs
 
--- src/lib.rt:33:9
 returns : tie.Need-returns
 returns c = sym (used-past _ _ _ (rw (c .before .positions-of .ensures .0) at (c .if1 .taken)))
 
--- src/lib.rt:35:30
 mask-of-requires : tie.Need-mask-of-requires
 mask-of-requires c κs = search needs
 
--- src/lib.rt:35:19
 word-at-requires : tie.Need-word-at-requires
 word-at-requires c κs = rw (c .mask-of .ensures) (mask-before (c .before .before .before .before .args .t) _ (c .before .before .before .before .pre))
 
--- src/lib.rt:35:5
 is-set-requires : tie.Need-is-set-requires
 is-set-requires c κs = search needs
 
--- src/lib.rt:28:1
 returns-2 : tie.Need-returns-2
 returns-2 c = let d = c .before .before .before in rw (used-is _ _ _ (rw (d .before .positions-of .ensures .0) at (d .if1 .left)), c .is-set .ensures, c .before .word-at .ensures, c .before .before .mask-of .ensures)
 

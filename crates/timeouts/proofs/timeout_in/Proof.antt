@@ -13,27 +13,21 @@ use Rattle.timeouts.proofs.timeout_in.Lts as lts
 use Rattle.words.proofs.bits_of.Reads as bits-of-reads
 use Rattle.words.proofs.low_half.Reads as low-half-reads
 
--- src/lib.rt:17:9
 low-half-requires : tie.Need-low-half-requires
 low-half-requires c κs = search needs
 
--- src/lib.rt:19:9
 returns : tie.Need-returns
 returns c = let k = c .before .low-half in bits-zero (k .result) (record { sfits = k .ok }) (c .if1 .taken) ∙ ap timeout-of (k .ensures)
 
--- src/lib.rt:22:9
 returns-2 : tie.Need-returns-2
 returns-2 c = let k = c .before .before .low-half in bits-ones (k .result) (record { sfits = k .ok }) (c .if2 .taken) ∙ ap timeout-of (k .ensures)
 
--- src/lib.rt:25:9
 returns-3 : tie.Need-returns-3
 returns-3 c = let k = c .before .before .before .low-half in below-zero (k .result) (record { sfits = k .ok }) (c .before .if2 .left) (c .if3 .taken) ∙ ap timeout-of (k .ensures)
 
--- src/lib.rt:27:21
 bits-of-requires : tie.Need-bits-of-requires
 bits-of-requires c κs = search needs
 
--- src/lib.rt:14:1
 returns-4 : tie.Need-returns-4
 returns-4 c = let k = c .before .before .before .before .low-half in
     ap Frames (c .bits-of .ensures ∙ ap (ofZ w32) (toZ-ofZ w32 (k .result) (record { sfits = k .ok })))

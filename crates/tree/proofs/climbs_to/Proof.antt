@@ -18,54 +18,42 @@ Inv-loop p t k j₀ n₀ j n = (j < 65536) × (climbs (positions Jobs) p t k ≡
 abbrev μ-loop : tie.MeasureT-loop
 μ-loop p t k j₀ n₀ j n = n
 
--- src/lib.rt:30:5
 loop-holds : tie.Need-loop-holds Inv-loop μ-loop
 loop-holds c = (omega arith, refl)
 
--- src/lib.rt:32:13
 returns : tie.Need-returns Inv-loop μ-loop
 returns c = sym (c .before .before .loop .inv .1 ∙ climbs-here _ _ _ _ (c .if1 .taken))
 
--- src/lib.rt:34:50
 mul-word : tie.Need-mul-word Inv-loop μ-loop
 mul-word c = search needs
 
--- src/lib.rt:34:29
 add-word : tie.Need-add-word Inv-loop μ-loop
 add-word c = search needs
 
--- src/lib.rt:34:29
 add-word-2 : tie.Need-add-word-2 Inv-loop μ-loop
 add-word-2 c = search needs
 
--- src/lib.rt:34:13
 word-requires : tie.Need-word-requires Inv-loop μ-loop
 word-requires c κs = search needs
 
--- src/lib.rt:36:13
 returns-2 : tie.Need-returns-2 Inv-loop μ-loop
 returns-2 c = let d = c .before .before in
     sym (d .before .before .loop .inv .1 ∙ climbs-stops _ _ _ _ (d .before .loop-test .taken) (d .if1 .left) (sym (c .before .word .ensures) ∙ c .if2 .taken))
 
--- src/lib.rt:38:13
 cast-j : tie.Need-cast-j Inv-loop μ-loop
 cast-j c = search needs
 
--- src/lib.rt:39:9
 sub-n : tie.Need-sub-n Inv-loop μ-loop
 sub-n c = search needs
 
--- src/lib.rt:30:5
 loop-less : tie.Need-loop-less Inv-loop μ-loop
 loop-less c = search needs
 
--- src/lib.rt:30:5
 loop-again : tie.Need-loop-again Inv-loop μ-loop
 loop-again c = let d = c .before .before in
     let w = c .before .word .ensures in
     (omega arith, d .before .before .loop .inv .1 ∙ climbs-up _ _ _ _ (d .before .loop-test .taken) (d .if1 .left) (rw w at (c .if2 .left)) ∙ rw w)
 
--- src/lib.rt:24:1
 returns-3 : tie.Need-returns-3 Inv-loop μ-loop
 returns-3 c = sym (c .before .loop .inv .1 ∙ climbs-ends _ _ _ _ (omega arith))
 

@@ -8,20 +8,16 @@ use Rattle.tree.proofs.is_in_tree.Lts as lts
 use Rattle.picture.proofs.is_used.Reads as is-used-reads
 use Rattle.tree.proofs.climbs_to.Reads as climbs-to-reads
 
--- src/lib.rt:49:8
 is-used-requires : tie.Need-is-used-requires
 is-used-requires c κs = search needs
 
--- src/lib.rt:50:9
 climbs-to-requires : tie.Need-climbs-to-requires
 climbs-to-requires c κs = search needs
 
--- src/lib.rt:50:9
 returns : tie.Need-returns
 unfolding in-tree
 returns c = rw (sym (c .before .before .is-used .ensures) ∙ c .before .if1 .taken) (c .climbs-to .ensures)
 
--- src/lib.rt:45:1
 returns-2 : tie.Need-returns-2
 unfolding in-tree
 returns-2 c = rw (sym (c .before .is-used .ensures) ∙ c .if1 .left)

@@ -18,32 +18,25 @@ Inv-loop p t mask₀ k₀ mask k = (k ≤ 32) × (mask ≡ Rattle.tree.specs.s
 abbrev μ-loop : tie.MeasureT-loop
 μ-loop p t mask₀ k₀ mask k = 32 - k
 
--- src/lib.rt:60:5
 loop-holds : tie.Need-loop-holds Inv-loop μ-loop
 unfolding mask
 loop-holds c = (omega arith, refl)
 
--- src/lib.rt:61:13
 is-in-tree-requires : tie.Need-is-in-tree-requires Inv-loop μ-loop
 is-in-tree-requires c κs = search needs
 
--- src/lib.rt:62:9
 with-bit-requires : tie.Need-with-bit-requires Inv-loop μ-loop
 with-bit-requires c κs = let l = c .before .before .loop in (omega arith, rw (l .inv .1) (mask-lt _ _))
 
--- src/lib.rt:60:9
 add-k : tie.Need-add-k Inv-loop μ-loop
 add-k c = search needs
 
--- src/lib.rt:60:5
 loop-less : tie.Need-loop-less Inv-loop μ-loop
 loop-less c = search needs
 
--- src/lib.rt:60:5
 loop-again : tie.Need-loop-again Inv-loop μ-loop
 loop-again c = let l = c .before .before .before .loop in (omega arith, c .with-bit .ensures ∙ rw (l .inv .1, c .before .is-in-tree .ensures) (sym (mask-more _ _)))
 
--- src/lib.rt:56:1
 returns : tie.Need-returns Inv-loop μ-loop
 unfolding tree
 returns c = let e : c .before .loop .k ≡ 32 = omega arith in c .before .loop .inv .1 ∙ rw e

@@ -6,23 +6,18 @@ use Rattle.tree.proofs.with_bit.Tie as tie
 use Rattle.tree.proofs.with_bit.Reads as reads
 use Rattle.tree.proofs.with_bit.Lts as lts
 
--- src/lib.rt:18:29
 cast-result : tie.Need-cast-result
 cast-result c = search needs
 
--- src/lib.rt:18:24
 shl-result : tie.Need-shl-result
 shl-result c = search needs
 
--- src/lib.rt:18:16
 add-result : tie.Need-add-result
 add-result c = rw (one-shl _ (c .before .pre .0)) (record { fits = bit-fits _ _ (c .before .pre .0) (c .before .pre .1) })
 
--- src/lib.rt:18:9
 returns : tie.Need-returns
 returns c = rw (one-shl _ (c .before .pre .0), c .if1 .taken)
 
--- src/lib.rt:13:1
 returns-2 : tie.Need-returns-2
 returns-2 c = rw (c .if1 .left) (omega arith)
 

@@ -10,36 +10,29 @@ use Rattle.picture.proofs.field_of.Reads as field-of-reads
 use Rattle.picture.proofs.is_ready.Reads as is-ready-reads
 use Rattle.turns.proofs.gained.Reads as gained-reads
 
--- src/lib.rt:96:9
 returns : tie.Need-returns
 returns c =
     let a = c .before .before .args in
     sym (picked-has-none (a .p .now) (a .m) (a .k) (c .if1 .taken))
 
--- src/lib.rt:98:9
 field-of-requires : tie.Need-field-of-requires
 field-of-requires c κs = search needs
 
--- src/lib.rt:99:9
 is-ready-requires : tie.Need-is-ready-requires
 is-ready-requires c κs = search needs
 
--- src/lib.rt:100:9
 returns-2 : tie.Need-returns-2
 returns-2 c =
     let f = c .before .before in
     let a = f .before .before .before .args in
     f .field-of .ensures ∙ sym (idle-keeps (a .p .now) (a .m) (a .k) (f .before .if1 .left) (sym (c .before .is-ready .ensures) ∙ not-true _ (c .if2 .taken)))
 
--- src/lib.rt:102:25
 field-of-requires-2 : tie.Need-field-of-requires-2
 field-of-requires-2 c κs = search needs
 
--- src/lib.rt:102:5
 gained-requires : tie.Need-gained-requires
 gained-requires c κs = search needs
 
--- src/lib.rt:91:1
 returns-3 : tie.Need-returns-3
 returns-3 c =
     let r = c .before .before .before in

@@ -18,23 +18,18 @@ Inv-loop p m₀ k₀ m k = (m ≤ positions Jobs) × (k ≤ positions Jobs) × (
 abbrev μ-loop : tie.MeasureT-loop
 μ-loop p m₀ k₀ m k = positions Jobs - k
 
--- src/lib.rt:71:5
 loop-holds : tie.Need-loop-holds Inv-loop μ-loop
 loop-holds c = (omega arith, omega arith, chosen-none (c .before .args .p .now))
 
--- src/lib.rt:72:9
 preferred-requires : tie.Need-preferred-requires Inv-loop μ-loop
 preferred-requires c κs = search needs
 
--- src/lib.rt:71:9
 add-k : tie.Need-add-k Inv-loop μ-loop
 add-k c = search needs
 
--- src/lib.rt:71:5
 loop-less : tie.Need-loop-less Inv-loop μ-loop
 loop-less c = search needs
 
--- src/lib.rt:71:5
 loop-again : tie.Need-loop-again Inv-loop μ-loop
 loop-again c =
     let d = c .before .before .loop in
@@ -42,7 +37,6 @@ loop-again c =
     let l : c .preferred .result ≤ positions Jobs = rw (c .preferred .ensures) (preferred-within p (d .m) (d .k) (c .before .loop-test .taken) (d .inv .0)) in
     (l, omega arith, chosen-next p (d .m) (d .k) (c .preferred .result) (d .inv .2) (c .preferred .ensures))
 
--- src/lib.rt:67:1
 returns : tie.Need-returns Inv-loop μ-loop
 unfolding chosen-job
 returns c =

@@ -6,15 +6,12 @@ use Rattle.turns.proofs.fallen.Tie as tie
 use Rattle.turns.proofs.fallen.Reads as reads
 use Rattle.turns.proofs.fallen.Lts as lts
 
--- src/lib.rt:141:9
 returns : tie.Need-returns
 returns c = sym (none-stays (c .before .args .timeout) (omega arith))
 
--- src/lib.rt:144:9
 returns-2 : tie.Need-returns-2
 returns-2 c = sym (negative-stays (c .before .before .args .timeout) (omega arith))
 
--- src/lib.rt:137:1
 returns-3 : tie.Need-returns-3
 returns-3 c = sym (positive-falls (c .before .before .args .timeout) (omega arith) (omega arith))
 

@@ -22,27 +22,21 @@ Inv-loop p₀ m k₀ p k = (k ≤ positions Jobs) × (length p ≡ length p₀) 
 abbrev μ-loop : tie.MeasureT-loop
 μ-loop p₀ m k₀ p k = positions Jobs - k
 
--- src/lib.rt:109:5
 loop-holds : tie.Need-loop-holds Inv-loop μ-loop
 loop-holds c = (omega arith, refl, set-each-none (c .before .args .p .now) accumulated-field (accumulated-after (c .before .args .p .now) (c .before .args .m)))
 
--- src/lib.rt:110:13
 accumulated-after-requires : tie.Need-accumulated-after-requires Inv-loop μ-loop
 accumulated-after-requires c κs = search needs
 
--- src/lib.rt:111:9
 set-field-requires : tie.Need-set-field-requires Inv-loop μ-loop
 set-field-requires c κs = search needs
 
--- src/lib.rt:109:9
 add-k : tie.Need-add-k Inv-loop μ-loop
 add-k c = search needs
 
--- src/lib.rt:109:5
 loop-less : tie.Need-loop-less Inv-loop μ-loop
 loop-less c = search needs
 
--- src/lib.rt:109:5
 loop-again : tie.Need-loop-again Inv-loop μ-loop
 loop-again c =
     let s = c .before .before in
@@ -52,11 +46,9 @@ loop-again c =
     let a = t .before .before .before .args in
     (omega arith, rw (s .set-field .ensures) (simp length-set (d .inv .1)), s .set-field .ensures ∙ set-each-next (a .p .now) accumulated-field (accumulated-after (a .p .now) (a .m)) (d .p) (d .k) (v .accumulated-after .result) (d .inv .2) (v .accumulated-after .ensures ∙ gain-ahead (a .p .now) (d .p) (a .m) (d .k) (d .inv .2)))
 
--- src/lib.rt:106:1
 same-length : tie.Need-same-length Inv-loop μ-loop
 same-length c = search needs
 
--- src/lib.rt:106:1
 returns : tie.Need-returns Inv-loop μ-loop
 returns c =
     let a = c .before .before .before .args in

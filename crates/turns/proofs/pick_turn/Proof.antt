@@ -15,54 +15,42 @@ use Rattle.turns.proofs.set_field.Reads as set-field-reads
 use Rattle.words.proofs.signed_of.Reads as signed-of-reads
 use Rattle.words.proofs.put.Reads as put-reads
 
--- src/lib.rt:120:9
 chosen-job-requires : tie.Need-chosen-job-requires
 chosen-job-requires c κs = search needs
 
--- src/lib.rt:122:9
 put-requires : tie.Need-put-requires
 put-requires c κs = search needs
 
--- src/lib.rt:123:9
 same-length : tie.Need-same-length
 same-length c = search needs
 
--- src/lib.rt:123:9
 returns : tie.Need-returns
 returns c = let q = c .before .before in
     let m = q .before .before .before in
     let d = nobody-picked (m .before .before .before .args .p .now) (m .chosen-job .result) (m .chosen-job .ensures .0) (q .before .before .if1 .taken) in
     (q .put .ensures ∙ d .0, d .1)
 
--- src/lib.rt:128:9
 field-of-requires : tie.Need-field-of-requires
 field-of-requires c κs = search needs
 
--- src/lib.rt:129:22
 field-of-requires-2 : tie.Need-field-of-requires-2
 field-of-requires-2 c κs = search needs
 
--- src/lib.rt:129:9
 signed-of-requires : tie.Need-signed-of-requires
 signed-of-requires c κs = search needs
 
--- src/lib.rt:130:5
 give-gains-requires : tie.Need-give-gains-requires
 give-gains-requires c κs = search needs
 
--- src/lib.rt:131:5
 set-field-requires : tie.Need-set-field-requires
 set-field-requires c κs = search needs
 
--- src/lib.rt:132:5
 put-requires-2 : tie.Need-put-requires-2
 put-requires-2 c κs = search needs
 
--- src/lib.rt:116:1
 same-length-2 : tie.Need-same-length-2
 same-length-2 c = search needs
 
--- src/lib.rt:116:1
 returns-2 : tie.Need-returns-2
 unfolding turn-given
 returns-2 c = let last = c .before .before in

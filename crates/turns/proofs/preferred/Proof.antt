@@ -10,32 +10,26 @@ use Rattle.turns.proofs.preferred.Lts as lts
 use Rattle.picture.proofs.field_of.Reads as field-of-reads
 use Rattle.picture.proofs.is_ready.Reads as is-ready-reads
 
--- src/lib.rt:54:9
 is-ready-requires : tie.Need-is-ready-requires
 is-ready-requires c κs = search needs
 
--- src/lib.rt:55:9
 returns : tie.Need-returns
 returns c =
     let a = c .before .before .before .args in
     idle-passed (a .p .now) (a .m) (a .k) (sym (c .before .is-ready .ensures) ∙ not-true _ (c .if1 .taken))
 
--- src/lib.rt:58:9
 returns-2 : tie.Need-returns-2
 returns-2 c =
     let r = c .before .before in
     let a = r .before .before .args in
     first-taken (a .p .now) (a .m) (a .k) (sym (r .is-ready .ensures) ∙ not-false _ (c .before .if1 .left)) (c .if2 .taken)
 
--- src/lib.rt:60:8
 field-of-requires : tie.Need-field-of-requires
 field-of-requires c κs = search needs
 
--- src/lib.rt:60:51
 field-of-requires-2 : tie.Need-field-of-requires-2
 field-of-requires-2 c κs = search needs
 
--- src/lib.rt:61:9
 returns-3 : tie.Need-returns-3
 returns-3 c =
     let e = c .before .before .before in
@@ -43,7 +37,6 @@ returns-3 c =
     let a = r .before .before .args in
     more-taken (a .p .now) (a .m) (a .k) (sym (r .is-ready .ensures) ∙ not-false _ (e .before .if1 .left)) (e .if2 .left) (omega (arith, c .before .before .field-of .ensures, c .before .field-of2 .ensures))
 
--- src/lib.rt:50:1
 returns-4 : tie.Need-returns-4
 returns-4 c =
     let e = c .before .before .before in

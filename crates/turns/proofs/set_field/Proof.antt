@@ -6,23 +6,18 @@ use Rattle.turns.proofs.set_field.Lts as lts
 use Rattle.picture.proofs.slot_of.Reads as slot-of-reads
 use Rattle.tables.proofs.put_at.Reads as put-at-reads
 
--- src/lib.rt:46:12
 slot-of-requires : tie.Need-slot-of-requires
 slot-of-requires c κs = search needs
 
--- src/lib.rt:46:12
 add-put-at : tie.Need-add-put-at
 add-put-at c = search needs
 
--- src/lib.rt:46:5
 put-at-requires : tie.Need-put-at-requires
 put-at-requires c κs = search needs
 
--- src/lib.rt:42:1
 same-length : tie.Need-same-length
 same-length c = search needs
 
--- src/lib.rt:42:1
 returns : tie.Need-returns
 returns c = rw (c .before .before .put-at .ensures, c .before .before .before .slot-of .ensures .0)
 

@@ -24,31 +24,24 @@ Inv-loop p₀ k₀ p k = (k ≤ positions Jobs) × (length p ≡ length p₀) ×
 abbrev μ-loop : tie.MeasureT-loop
 μ-loop p₀ k₀ p k = positions Jobs - k
 
--- src/lib.rt:153:5
 loop-holds : tie.Need-loop-holds Inv-loop μ-loop
 loop-holds c = (omega arith, refl, set-each-none (c .before .args .p .now) timeout-field (λ (i : ℕ). fallen (timeout (c .before .args .p .now) i)))
 
--- src/lib.rt:154:13
 field-of-requires : tie.Need-field-of-requires Inv-loop μ-loop
 field-of-requires c κs = search needs
 
--- src/lib.rt:155:34
 fallen-requires : tie.Need-fallen-requires Inv-loop μ-loop
 fallen-requires c κs = search needs
 
--- src/lib.rt:155:9
 set-field-requires : tie.Need-set-field-requires Inv-loop μ-loop
 set-field-requires c κs = search needs
 
--- src/lib.rt:153:9
 add-k : tie.Need-add-k Inv-loop μ-loop
 add-k c = search needs
 
--- src/lib.rt:153:5
 loop-less : tie.Need-loop-less Inv-loop μ-loop
 loop-less c = search needs
 
--- src/lib.rt:153:5
 loop-again : tie.Need-loop-again Inv-loop μ-loop
 loop-again c =
     let s = c .before .before in
@@ -60,11 +53,9 @@ loop-again c =
     let same = ap (λ (x : List ℕ). timeout x (d .k)) (d .inv .2) ∙ later-record-stays p timeout-field (λ (i : ℕ). fallen (timeout p i)) (omega arith) (d .k) (d .k) timeout-field (omega arith) (omega arith) in
     (omega arith, rw (s .set-field .ensures) (simp length-set (d .inv .1)), s .set-field .ensures ∙ set-each-next p timeout-field (λ (i : ℕ). fallen (timeout p i)) (d .p) (d .k) (f .fallen .result) (d .inv .2) (f .fallen .ensures ∙ ap fallen (v .field-of .ensures ∙ same)))
 
--- src/lib.rt:150:1
 same-length : tie.Need-same-length Inv-loop μ-loop
 same-length c = search needs
 
--- src/lib.rt:150:1
 returns : tie.Need-returns Inv-loop μ-loop
 unfolding ticked
 returns c =

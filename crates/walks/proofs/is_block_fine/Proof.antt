@@ -14,31 +14,25 @@ use Rattle.tables.proofs.word_at.Reads as word-at-reads
 use Rattle.walks.proofs.is_free_fine.Reads as is-free-fine-reads
 use Rattle.walks.proofs.is_held_fine.Reads as is-held-fine-reads
 
--- src/lib.rt:71:9
 length-whole-requires : tie.Need-length-whole-requires
 length-whole-requires c κs = search needs
 
--- src/lib.rt:72:9
 returns : tie.Need-returns
 unfolding block-fine
 returns c = rw (sym (c .before .length-whole .ensures) ∙ not-true _ (c .if1 .taken))
 
--- src/lib.rt:74:9
 is-within-requires : tie.Need-is-within-requires
 is-within-requires c κs = search needs
 
--- src/lib.rt:75:9
 returns-2 : tie.Need-returns-2
 unfolding block-fine
 returns-2 c =
     let a = c .before .before in
     rw (sym (a .before .length-whole .ensures) ∙ not-false _ (a .if1 .left), sym (c .before .is-within .ensures) ∙ not-true _ (c .if2 .taken))
 
--- src/lib.rt:77:19
 add-word-at : tie.Need-add-word-at
 add-word-at c = search needs
 
--- src/lib.rt:77:8
 word-at-requires : tie.Need-word-at-requires
 word-at-requires c κs =
     let b = c in
@@ -47,7 +41,6 @@ word-at-requires c κs =
     let h = header-within (s .args .p .now) (s .args .e) (s .args .i) (sym (a .before .length-whole .ensures) ∙ not-false _ (a .if1 .left)) (sym (b .before .is-within .ensures) ∙ not-false _ (b .if2 .left)) in
     omega (arith, s .pre .1 .1 .0)
 
--- src/lib.rt:78:9
 is-free-fine-requires : tie.Need-is-free-fine-requires
 is-free-fine-requires c κs =
     let b = c .before .before in
@@ -56,7 +49,6 @@ is-free-fine-requires c κs =
     let h = header-within (s .args .p .now) (s .args .e) (s .args .i) (sym (a .before .length-whole .ensures) ∙ not-false _ (a .if1 .left)) (sym (b .before .is-within .ensures) ∙ not-false _ (b .if2 .left)) in
     (omega (arith, s .pre .1 .1 .0), (s .pre .1 .0, s .pre .1 .1 .1))
 
--- src/lib.rt:78:9
 returns-3 : tie.Need-returns-3
 unfolding block-fine
 returns-3 c =
@@ -65,7 +57,6 @@ returns-3 c =
     let a = b .before .before in
     rw (sym (a .before .length-whole .ensures) ∙ not-false _ (a .if1 .left), sym (b .before .is-within .ensures) ∙ not-false _ (b .if2 .left), eq-eqb _ _ (rw (f .before .word-at .ensures) at (f .if3 .taken)), c .is-free-fine .ensures)
 
--- src/lib.rt:80:5
 is-held-fine-requires : tie.Need-is-held-fine-requires
 is-held-fine-requires c κs =
     let b = c .before .before in
@@ -74,7 +65,6 @@ is-held-fine-requires c κs =
     let h = header-within (s .args .p .now) (s .args .e) (s .args .i) (sym (a .before .length-whole .ensures) ∙ not-false _ (a .if1 .left)) (sym (b .before .is-within .ensures) ∙ not-false _ (b .if2 .left)) in
     (s .pre .0, (omega (arith, s .pre .1 .1 .0), omega (arith, s .pre .1 .0, s .pre .1 .1 .1)))
 
--- src/lib.rt:67:1
 returns-4 : tie.Need-returns-4
 unfolding block-fine
 returns-4 c =

@@ -9,20 +9,16 @@ use Rattle.walks.proofs.is_free_fine.Lts as lts
 use Rattle.areas.proofs.free_blank.Reads as free-blank-reads
 use Rattle.areas.proofs.is_untouched.Reads as is-untouched-reads
 
--- src/lib.rt:17:9
 free-blank-requires : tie.Need-free-blank-requires
 free-blank-requires c κs = search needs
 
--- src/lib.rt:18:9
 returns : tie.Need-returns
 unfolding free-fine
 returns c = rw (sym (c .before .free-blank .ensures) ∙ not-true _ (c .if1 .taken))
 
--- src/lib.rt:20:5
 is-untouched-requires : tie.Need-is-untouched-requires
 is-untouched-requires c κs = search needs
 
--- src/lib.rt:13:1
 returns-2 : tie.Need-returns-2
 unfolding free-fine
 returns-2 c =

@@ -13,40 +13,31 @@ use Rattle.matching.proofs.is_noticed.Reads as is-noticed-reads
 use Rattle.tables.proofs.is_live.Reads as is-live-reads
 use Rattle.tables.proofs.word_at.Reads as word-at-reads
 
--- src/lib.rt:42:19
 add-word-at : tie.Need-add-word-at
 add-word-at c = search needs
 
--- src/lib.rt:42:8
 word-at-requires : tie.Need-word-at-requires
 word-at-requires c κs = search needs
 
--- src/lib.rt:43:9
 returns : tie.Need-returns
 unfolding held-fine
 returns c = rw (ne-eqb _ _ (rw (c .before .word-at .ensures) at (c .if1 .taken)))
 
--- src/lib.rt:45:27
 add-word-at-2 : tie.Need-add-word-at-2
 add-word-at-2 c = search needs
 
--- src/lib.rt:45:9
 word-at-requires-2 : tie.Need-word-at-requires-2
 word-at-requires-2 c κs = search needs
 
--- src/lib.rt:47:59
 add-word-at-3 : tie.Need-add-word-at-3
 add-word-at-3 c = search needs
 
--- src/lib.rt:47:48
 word-at-requires-3 : tie.Need-word-at-requires-3
 word-at-requires-3 c κs = search needs
 
--- src/lib.rt:47:9
 is-live-requires : tie.Need-is-live-requires
 is-live-requires c κs = search needs
 
--- src/lib.rt:47:9
 returns-2 : tie.Need-returns-2
 unfolding held-fine
 returns-2 c =
@@ -54,7 +45,6 @@ returns-2 c =
     let s = k .before .before in
     rw (eq-eqb _ _ (rw (s .before .word-at .ensures) at (s .if1 .left)), eq-eqb _ _ (rw (k .before .word-at2 .ensures) at (k .if2 .taken)), c .is-live .ensures, c .before .word-at3 .ensures)
 
--- src/lib.rt:50:9
 returns-3 : tie.Need-returns-3
 unfolding held-fine
 returns-3 c =
@@ -62,11 +52,9 @@ returns-3 c =
     let s = k .before .before in
     rw (eq-eqb _ _ (rw (s .before .word-at .ensures) at (s .if1 .left)), ne-eqb _ _ (rw (k .before .word-at2 .ensures) at (k .if2 .left)), ne-eqb _ _ (rw (k .before .word-at2 .ensures) at (c .if3 .taken)))
 
--- src/lib.rt:52:9
 queue-room-requires : tie.Need-queue-room-requires
 queue-room-requires c κs = search needs
 
--- src/lib.rt:53:9
 returns-4 : tie.Need-returns-4
 unfolding held-fine
 returns-4 c =
@@ -75,11 +63,9 @@ returns-4 c =
     let s = k .before .before in
     rw (eq-eqb _ _ (rw (s .before .word-at .ensures) at (s .if1 .left)), ne-eqb _ _ (rw (k .before .word-at2 .ensures) at (k .if2 .left)), eq-eqb _ _ (rw (k .before .word-at2 .ensures) at (q .if3 .left)), sym (c .before .queue-room .ensures) ∙ not-true _ (c .if4 .taken))
 
--- src/lib.rt:55:8
 is-noticed-requires : tie.Need-is-noticed-requires
 is-noticed-requires c κs = search needs
 
--- src/lib.rt:56:9
 returns-5 : tie.Need-returns-5
 unfolding held-fine
 returns-5 c =
@@ -89,11 +75,9 @@ returns-5 c =
     let s = k .before .before in
     rw (eq-eqb _ _ (rw (s .before .word-at .ensures) at (s .if1 .left)), ne-eqb _ _ (rw (k .before .word-at2 .ensures) at (k .if2 .left)), eq-eqb _ _ (rw (k .before .word-at2 .ensures) at (q .if3 .left)), sym (r .before .queue-room .ensures) ∙ not-false _ (r .if4 .left), noticed-met _ _ _ _ (sym (c .before .is-noticed .ensures) ∙ c .if5 .taken))
 
--- src/lib.rt:58:5
 is-met-requires : tie.Need-is-met-requires
 is-met-requires c κs = search needs
 
--- src/lib.rt:38:1
 returns-6 : tie.Need-returns-6
 unfolding held-fine
 returns-6 c =

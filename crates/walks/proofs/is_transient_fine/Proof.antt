@@ -11,35 +11,28 @@ use Rattle.matching.proofs.is_met.Reads as is-met-reads
 use Rattle.matching.proofs.is_noticed.Reads as is-noticed-reads
 use Rattle.tables.proofs.word_at.Reads as word-at-reads
 
--- src/lib.rt:28:19
 add-word-at : tie.Need-add-word-at
 add-word-at c = search needs
 
--- src/lib.rt:28:8
 word-at-requires : tie.Need-word-at-requires
 word-at-requires c κs = search needs
 
--- src/lib.rt:29:9
 returns : tie.Need-returns
 unfolding held-fine
 returns c = rw (ne-eqb _ _ (rw (c .before .word-at .ensures) at (c .if1 .taken)))
 
--- src/lib.rt:31:8
 is-noticed-requires : tie.Need-is-noticed-requires
 is-noticed-requires c κs = search needs
 
--- src/lib.rt:32:9
 returns-2 : tie.Need-returns-2
 unfolding held-fine
 returns-2 c =
     let d = c .before .before in
     rw (eq-eqb _ _ (rw (d .before .word-at .ensures) at (d .if1 .left)), noticed-met _ _ _ _ (sym (c .before .is-noticed .ensures) ∙ c .if2 .taken))
 
--- src/lib.rt:34:5
 is-met-requires : tie.Need-is-met-requires
 is-met-requires c κs = search needs
 
--- src/lib.rt:24:1
 returns-3 : tie.Need-returns-3
 unfolding held-fine
 returns-3 c =

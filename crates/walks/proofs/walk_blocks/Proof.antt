@@ -20,29 +20,23 @@ Inv-loop p t b e noted kind i₀ found₀ i found = Left p t b e i found
 abbrev μ-loop : tie.MeasureT-loop
 μ-loop p t b e noted kind i₀ found₀ i found = e - i
 
--- src/lib.rt:94:9
 kind-of-requires : tie.Need-kind-of-requires Inv-loop μ-loop
 kind-of-requires c κs = search needs
 
--- src/lib.rt:97:5
 loop-holds : tie.Need-loop-holds Inv-loop μ-loop
 loop-holds c = left-first _ _ _ _
 
--- src/lib.rt:98:13
 is-block-fine-requires : tie.Need-is-block-fine-requires Inv-loop μ-loop
 is-block-fine-requires c κs = search needs
 
--- src/lib.rt:99:13
 returns : tie.Need-returns Inv-loop μ-loop
 returns c =
     let l = c .before .before in
     left-broken _ _ _ _ _ _ (l .before .loop .inv) (l .loop-test .taken) (sym (c .before .is-block-fine .ensures) ∙ not-true _ (c .if1 .taken))
 
--- src/lib.rt:101:46
 add-word-at : tie.Need-add-word-at Inv-loop μ-loop
 add-word-at c = search needs
 
--- src/lib.rt:101:35
 word-at-requires : tie.Need-word-at-requires Inv-loop μ-loop
 word-at-requires c κs =
     let l = c .before .before in
@@ -50,26 +44,21 @@ word-at-requires c κs =
     let w = fine-within (a .args .p .now) (a .args .t) (a .args .e) (l .before .loop .i) (sym (c .before .is-block-fine .ensures) ∙ not-false _ (c .if1 .left)) in
     omega (arith, a .pre .1 .0)
 
--- src/lib.rt:101:18
 one-of-requires : tie.Need-one-of-requires Inv-loop μ-loop
 one-of-requires c κs = search needs
 
--- src/lib.rt:101:9
 add-found : tie.Need-add-found Inv-loop μ-loop
 add-found c = let n = c .before .before .before .before .before .loop .inv .few in omega (arith, c .one-of .ensures .1)
 
--- src/lib.rt:102:14
 word-at-requires-2 : tie.Need-word-at-requires-2 Inv-loop μ-loop
 word-at-requires-2 c κs =
     let l = c .before .before .before .before in
     let s = l .before .before .before .before in
     omega (arith, s .pre .1 .0, l .loop-test .taken)
 
--- src/lib.rt:102:14
 cast-i : tie.Need-cast-i Inv-loop μ-loop
 cast-i c = search needs
 
--- src/lib.rt:102:9
 add-i : tie.Need-add-i Inv-loop μ-loop
 add-i c =
     let w = c .before .before in
@@ -80,7 +69,6 @@ add-i c =
     let n = next-le (a .p .now) (l .before .loop .i) (a .e) in
     omega (arith, l .before .before .before .before .pre .1 .1)
 
--- src/lib.rt:97:5
 loop-less : tie.Need-loop-less Inv-loop μ-loop
 loop-less c =
     let w = c .before .before in
@@ -89,7 +77,6 @@ loop-less c =
     let a = l .before .before .before .before .args in
     next-falls _ _ _ _ (fine-next (a .p .now) (a .t) (a .e) (l .before .loop .i) (c .word-at2 .result) (c .word-at2 .ensures) (sym (d .before .is-block-fine .ensures) ∙ not-false _ (d .if1 .left))) (l .loop-test .taken)
 
--- src/lib.rt:97:5
 loop-again : tie.Need-loop-again Inv-loop μ-loop
 loop-again c =
     let w = c .before .before in
@@ -102,7 +89,6 @@ loop-again c =
     (c .before .one-of .ensures .0 ∙ rw (w .word-at .ensures, l .before .before .kind-of .ensures))
     (c .before .one-of .ensures .1) z (rw z (u .0))
 
--- src/lib.rt:90:1
 returns-2 : tie.Need-returns-2 Inv-loop μ-loop
 returns-2 c = left-counted _ _ _ _ _ _ (c .before .loop .inv) (c .loop-test .left)
 

@@ -6,19 +6,15 @@ use Rattle.words.proofs.bits_of.Tie as tie
 use Rattle.words.proofs.bits_of.Reads as reads
 use Rattle.words.proofs.bits_of.Lts as lts
 
--- src/lib.rt:71:9
 cast-result : tie.Need-cast-result
 cast-result c = cast-pos (c .before .args .key) (c .before .fits .key) (c .if1 .taken) .0
 
--- src/lib.rt:73:11
 cast-result-2 : tie.Need-cast-result-2
 cast-result-2 c = cast-neg (c .before .args .key) (c .before .fits .key) (c .if1 .left) .0
 
--- src/lib.rt:67:1
 returns : tie.Need-returns
 returns c = cast-pos (c .before .args .key) (c .before .fits .key) (c .if1 .taken) .1
 
--- src/lib.rt:67:1
 returns-2 : tie.Need-returns-2
 returns-2 c = cast-neg (c .before .args .key) (c .before .fits .key) (c .if1 .left) .1
 

@@ -17,34 +17,27 @@ Inv-loop p₀ from upto i₀ p i = (length p ≡ length p₀) × (clear (upto - 
 abbrev μ-loop : tie.MeasureT-loop
 μ-loop p₀ from upto i₀ p i = upto - i
 
--- src/lib.rt:33:5
 loop-holds : tie.Need-loop-holds Inv-loop μ-loop
 loop-holds c = (refl, refl)
 
--- src/lib.rt:34:9
 put-requires : tie.Need-put-requires Inv-loop μ-loop
 put-requires c κs = search needs
 
--- src/lib.rt:35:9
 add-i : tie.Need-add-i Inv-loop μ-loop
 add-i c = search needs
 
--- src/lib.rt:33:5
 loop-less : tie.Need-loop-less Inv-loop μ-loop
 loop-less c = search needs
 
--- src/lib.rt:33:5
 loop-again : tie.Need-loop-again Inv-loop μ-loop
 loop-again c =
     let q = c .before .before .put .ensures in
     let t = c .before .before .before .before in
     (rw q (simp length-set (t .before .loop .inv .0)), t .before .loop .inv .1 ∙ clear-more _ _ _ (t .loop-test .taken) ∙ rw q)
 
--- src/lib.rt:29:1
 same-length : tie.Need-same-length Inv-loop μ-loop
 same-length c = search needs
 
--- src/lib.rt:29:1
 returns : tie.Need-returns Inv-loop μ-loop
 returns c = sym (c .before .loop .inv .1 ∙ clear-end _ _ _ (c .loop-test .left))
 

@@ -10,23 +10,18 @@ use Rattle.words.proofs.low_half.Tie as tie
 use Rattle.words.proofs.low_half.Reads as reads
 use Rattle.words.proofs.low_half.Lts as lts
 
--- src/lib.rt:60:9
 cast-result : tie.Need-cast-result
 cast-result c = search needs
 
--- src/lib.rt:62:12
 sub-result : tie.Need-sub-result
 sub-result c = search needs
 
--- src/lib.rt:62:11
 cast-result-2 : tie.Need-cast-result-2
 cast-result-2 c = search needs
 
--- src/lib.rt:55:1
 returns : tie.Need-returns
 returns c = toZ-pos w32 _ (omega arith) ∙ sym (toZ-pos w16 _ (c .if1 .taken))
 
--- src/lib.rt:55:1
 returns-2 : tie.Need-returns-2
 returns-2 c = spread (c .before .args .register % 65536) (omega arith) (omega arith)
 

@@ -8,11 +8,9 @@ use Rattle.words.proofs.lowest_clear.Tie as tie
 use Rattle.words.proofs.lowest_clear.Reads as reads
 use Rattle.words.proofs.lowest_clear.Lts as lts
 
--- src/lib.rt:51:5
 cast-result : tie.Need-cast-result
 cast-result c = omega (arith, trailing-le 32 (4294967295 - c .args .mask))
 
--- src/lib.rt:48:1
 returns : tie.Need-returns
 returns c = (complement 32 (c .args .mask) (omega arith), trailing-le 32 (4294967295 - c .args .mask))
 

@@ -6,23 +6,18 @@ use Rattle.words.proofs.put.Tie as tie
 use Rattle.words.proofs.put.Reads as reads
 use Rattle.words.proofs.put.Lts as lts
 
--- src/lib.rt:24:9
 mul-p : tie.Need-mul-p
 mul-p c = search needs
 
--- src/lib.rt:24:9
 slice-write-p : tie.Need-slice-write-p
 slice-write-p c = search needs
 
--- src/lib.rt:20:1
 same-length : tie.Need-same-length
 same-length c = search needs
 
--- src/lib.rt:20:1
 returns : tie.Need-returns
 returns c = search needs
 
--- src/lib.rt:20:1
 returns-2 : tie.Need-returns-2
 returns-2 c = sym (set-out _ _ _ (c .if1 .left))
 

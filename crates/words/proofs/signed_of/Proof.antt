@@ -9,19 +9,15 @@ use Rattle.words.proofs.signed_of.Tie as tie
 use Rattle.words.proofs.signed_of.Reads as reads
 use Rattle.words.proofs.signed_of.Lts as lts
 
--- src/lib.rt:35:9
 cast-result : tie.Need-cast-result
 cast-result c = search needs
 
--- src/lib.rt:37:11
 cast-result-2 : tie.Need-cast-result-2
 cast-result-2 c = search needs
 
--- src/lib.rt:31:1
 returns : tie.Need-returns
 returns c = search needs
 
--- src/lib.rt:31:1
 returns-2 : tie.Need-returns-2
 returns-2 c = ap (toZ w32) (not-not 4294967295 (c .before .args .longword) (omega arith))
 

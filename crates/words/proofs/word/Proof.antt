@@ -6,19 +6,15 @@ use Rattle.words.proofs.word.Tie as tie
 use Rattle.words.proofs.word.Reads as reads
 use Rattle.words.proofs.word.Lts as lts
 
--- src/lib.rt:14:16
 mul-result : tie.Need-mul-result
 mul-result c = search needs
 
--- src/lib.rt:14:16
 shared-slice-read-result : tie.Need-shared-slice-read-result
 shared-slice-read-result c = search needs
 
--- src/lib.rt:14:9
 returns : tie.Need-returns
 returns c = search needs
 
--- src/lib.rt:10:1
 returns-2 : tie.Need-returns-2
 returns-2 c = sym (List·getD-eq-default (c .before .args .p .now) 0 (c .if1 .left))
 
