@@ -14,15 +14,19 @@ need_rattle() {
     }
 }
 
-# Rust's cargo, for the tests outside Rattle; installed from Debian's packages where it is missing.
+# Rust's cargo, for the tests outside Rattle, as new as reference/Cargo.toml asks; Debian's package cargo-web is installed where there is none.
 need_cargo() {
-    command -v cargo >/dev/null && return
-    echo "cargo is missing: installing Debian's package." >&2
-    (apt-get update && apt-get install -y cargo) >/dev/null 2>&1
-    command -v cargo >/dev/null || {
-        echo "Rust's cargo is missing and could not be installed: install Rust and try again." >&2
+    local least have
+    least=$(sed -n 's/^rust-version = "\(.*\)"$/\1/p' "$(dirname "${BASH_SOURCE[0]}")/../reference/Cargo.toml")
+    if ! command -v cargo >/dev/null; then
+        echo "cargo is missing: installing Debian's package cargo-web." >&2
+        (apt-get update && apt-get install -y --no-install-recommends cargo-web) >/dev/null 2>&1
+    fi
+    have=$(rustc --version 2>/dev/null | cut -d' ' -f2)
+    if [ -z "$have" ] || [ "$(printf '%s\n' "$least" "$have" | sort -V | head -n 1)" != "$least" ]; then
+        echo "Rust $least or newer is needed with its cargo, and here is ${have:-none}: install it from https://rustup.rs, or on Debian 12 the package cargo-web, and try again." >&2
         exit 2
-    }
+    fi
 }
 
 # Runs a program of Rattle's: programs are for x86-64, and on Arm they run under the kit's emulator.

@@ -1,7 +1,5 @@
 // A session: a frame of hexadecimal a line, and an answer for each.
-ghost use mathlib.Core.Path.{_≡_};
-ghost use lib.ListN.{length};
-
+mod room;
 mod running;
 
 // The session's picture: its longwords, and those of its heap.
@@ -15,42 +13,12 @@ pub struct Progress {
     pub used: usize,
 }
 
-// Room for a line: one character more than a good line may have.
-fn line_room() -> [u8; 513]
-    ensures { λ r. ⌜ 513 ≡ length r ⌝ }
-{
-    [0; 513]
-}
-
-// Room for a name: two digits a byte behind a trap's 66.
-fn name_room() -> [u8; 223]
-    ensures { λ r. ⌜ 223 ≡ length r ⌝ }
-{
-    [0; 223]
-}
-
-// Room for the picture.
-fn picture_room() -> [u32; 1024]
-    ensures { λ r. ⌜ 1024 ≡ length r ⌝ }
-{
-    [0; 1024]
-}
-
 // Answers each line of standard input, from a fresh picture on.
 fn main() {
+    let mut picture = room::picture_room();
     let mut chunk = io::large_buffer();
-    let mut line = line_room();
-    let mut registers = [0u32; 8];
-    let mut name = name_room();
-    let mut picture = picture_room();
+    let mut line = room::line_room();
     let mut out = io::large_buffer();
     manager::fresh(&mut picture, SIZE, HEAP);
-    running::answer_all(
-        &mut chunk,
-        &mut line,
-        &mut registers,
-        &mut name,
-        &mut picture,
-        &mut out,
-    );
+    running::answer_all(&mut picture, &mut chunk, &mut line, &mut out);
 }

@@ -1,4 +1,5 @@
 use crate::Progress;
+use crate::room;
 use libc::STDIN_FILENO;
 use lines::Line;
 ghost use mathlib.Core.Path.{_≡_};
@@ -14,37 +15,37 @@ fn write_bad(out: &mut [u8], used: usize) -> usize {
 }
 
 // A pick gives its number and its key.
-fn write_pick(picture: &mut [u32], out: &mut [u8], used: usize) -> usize {
-    let picked = manager::pick(picture);
+fn write_pick(p: &mut [u32], out: &mut [u8], used: usize) -> usize {
+    let picked = manager::pick(p);
     let answer = [picked.number, words::bits_of(picked.key)];
     writing::write_answer(out, used, &answer)
 }
 
 // A tick gives its key.
-fn write_tick(picture: &mut [u32], out: &mut [u8], used: usize) -> usize {
-    let answer = [words::bits_of(manager::tick(picture))];
+fn write_tick(p: &mut [u32], out: &mut [u8], used: usize) -> usize {
+    let answer = [words::bits_of(manager::tick(p))];
     writing::write_answer(out, used, &answer)
 }
 
 // A trap gives its eight registers.
 fn write_trap(
+    p: &mut [u32],
     trap: u32,
     registers: &mut [u32],
     name: &[u8],
-    picture: &mut [u32],
     out: &mut [u8],
     used: usize,
 ) -> usize {
-    manager::call(trap, registers, name, picture);
+    manager::call(trap, registers, name, p);
     writing::write_answer(out, used, registers)
 }
 
-// Answers a line.
-fn answer_line(
+// Answers a line, in the rooms that are lent for its registers and its name.
+fn answer_in(
+    p: &mut [u32],
     line: &[u8],
     registers: &mut [u32],
     name: &mut [u8],
-    picture: &mut [u32],
     out: &mut [u8],
     used: usize,
 ) -> usize
@@ -53,36 +54,35 @@ fn answer_line(
     let start = pieces::with_room(out, used);
     match lines::read_line(line, registers, name) {
         Line::Bad => write_bad(out, start),
-        Line::Pick => write_pick(picture, out, start),
-        Line::Tick => write_tick(picture, out, start),
-        Line::Trap(trap, count) => write_trap(trap, registers, &name[..count], picture, out, start),
+        Line::Pick => write_pick(p, out, start),
+        Line::Tick => write_tick(p, out, start),
+        Line::Trap(trap, count) => write_trap(p, trap, registers, &name[..count], out, start),
     }
 }
 
+// Answers a line.
+fn answer_line(p: &mut [u32], line: &[u8], out: &mut [u8], used: usize) -> usize {
+    let mut registers = room::registers_room();
+    let mut name = room::name_room();
+    answer_in(p, line, &mut registers, &mut name, out, used)
+}
+
 // Answers the line that a part of a chunk ends, straight from the chunk where nothing of it is kept.
-fn take(
-    part: &[u8],
-    progress: Progress,
-    line: &mut [u8],
-    registers: &mut [u32],
-    name: &mut [u8],
-    picture: &mut [u32],
-    out: &mut [u8],
-) -> Progress
-    requires { ⌜ (progress .length ≤ length (now line)) × (223 ≤ length (now name)) ⌝ }
+fn take(p: &mut [u32], part: &[u8], progress: Progress, line: &mut [u8], out: &mut [u8]) -> Progress
+    requires { ⌜ progress .length ≤ length (now line) ⌝ }
     ensures { λ r. ⌜ r .length ≡ 0 ⌝ }
 {
     let kept = progress.length;
     let used = progress.used;
     if kept == 0 {
-        let end = answer_line(part, registers, name, picture, out, used);
+        let end = answer_line(p, part, out, used);
         return Progress {
             length: 0,
             used: end,
         };
     }
     let whole = lines::keep(part, kept, line);
-    let end = answer_line(&line[..whole], registers, name, picture, out, used);
+    let end = answer_line(p, &line[..whole], out, used);
     Progress {
         length: 0,
         used: end,
@@ -91,15 +91,13 @@ fn take(
 
 // Answers the lines that end in a chunk, writes the answers out, and keeps what stands behind the last line feed.
 fn take_all(
+    p: &mut [u32],
     chunk: &[u8],
     progress: Progress,
     line: &mut [u8],
-    registers: &mut [u32],
-    name: &mut [u8],
-    picture: &mut [u32],
     out: &mut [u8],
 ) -> Progress
-    requires { ⌜ (progress .length ≤ length (now line)) × (223 ≤ length (now name)) ⌝ }
+    requires { ⌜ progress .length ≤ length (now line) ⌝ }
     ensures { λ r. ⌜ r .length ≤ length (now (line .entry)) ⌝ }
 {
     let mut now = progress;
@@ -109,7 +107,7 @@ fn take_all(
         if end == chunk.len() {
             break;
         }
-        now = take(&chunk[start..end], now, line, registers, name, picture, out);
+        now = take(p, &chunk[start..end], now, line, out);
         start = end + 1;
     }
     pieces::write_out(out, now.used);
@@ -120,41 +118,25 @@ fn take_all(
 }
 
 // Answers what stands behind the last line feed.
-fn finish(
-    progress: Progress,
-    line: &[u8],
-    registers: &mut [u32],
-    name: &mut [u8],
-    picture: &mut [u32],
-    out: &mut [u8],
-)
-    requires { ⌜ (progress .length ≤ length (now line)) × (223 ≤ length (now name)) ⌝ }
+fn finish(p: &mut [u32], progress: Progress, line: &[u8], out: &mut [u8])
+    requires { ⌜ progress .length ≤ length (now line) ⌝ }
 {
     let kept = progress.length;
     if kept == 0 {
         return;
     }
-    let used = answer_line(&line[..kept], registers, name, picture, out, progress.used);
+    let used = answer_line(p, &line[..kept], out, progress.used);
     pieces::write_out(out, used);
 }
 
 // Answers each line of standard input, in the rooms that are lent. There are more turns than any run uses up.
-pub fn answer_all(
-    chunk: &mut [u8],
-    line: &mut [u8],
-    registers: &mut [u32],
-    name: &mut [u8],
-    picture: &mut [u32],
-    out: &mut [u8],
-)
-    requires { ⌜ 223 ≤ length (now name) ⌝ }
-{
+pub fn answer_all(p: &mut [u32], chunk: &mut [u8], line: &mut [u8], out: &mut [u8]) {
     let mut progress = Progress { length: 0, used: 0 };
     let mut turns = u64::MAX;
     while 0 < turns {
         let got = io::count(libc::read(STDIN_FILENO, chunk), chunk);
-        progress = take_all(&chunk[..got], progress, line, registers, name, picture, out);
+        progress = take_all(p, &chunk[..got], progress, line, out);
         turns = pieces::turns_after(turns, got);
     }
-    finish(progress, line, registers, name, picture, out);
+    finish(p, progress, line, out);
 }

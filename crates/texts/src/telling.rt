@@ -1,5 +1,7 @@
 use crate::Asked;
 use crate::asking;
+ghost use mathlib.Core.Path.{_≡_};
+ghost use lib.ListN.{length};
 
 // Answers a line that is no trial.
 pub fn write_refusal(out: &mut [u8], used: usize) -> usize {
@@ -45,8 +47,15 @@ fn tell<'a>(key: u32, system: &'a [u8], driver: &'a [u8], out: &mut [u8], used: 
     write_error(words::bits_of(answered), text, out, used)
 }
 
+// Room for an error text: as many bytes as a line may have pairs of characters.
+fn text_room() -> [u8; 150000]
+    ensures { λ r. ⌜ 150000 ≡ length r ⌝ }
+{
+    [0; 150000]
+}
+
 // Answers a line that asks for an error text, in the rooms that are lent.
-pub fn answer_error(
+fn answer_in(
     line: &[u8],
     system: &mut [u8],
     driver: &mut [u8],
@@ -57,4 +66,11 @@ pub fn answer_error(
         Asked::Text(key, first, last) => tell(key, &system[..first], &driver[..last], out, used),
         Asked::Bad => write_refusal(out, used),
     }
+}
+
+// Answers a line that asks for an error text.
+pub fn answer_error(line: &[u8], out: &mut [u8], used: usize) -> usize {
+    let mut system = text_room();
+    let mut driver = text_room();
+    answer_in(line, &mut system, &mut driver, out, used)
 }

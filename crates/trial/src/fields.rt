@@ -138,8 +138,8 @@ fn width_at(field: &[u8], place: usize) -> usize
 }
 
 // Reads the longwords of a picture field, and answers how many there are.
-fn read_longwords(field: &[u8], picture: &mut [u32]) -> Count
-    ensures { λ r. ⌜ Within r (length (now (picture .entry))) ⌝ }
+fn read_longwords(p: &mut [u32], field: &[u8]) -> Count
+    ensures { λ r. ⌜ Within r (length (now (p .entry))) ⌝ }
 {
     let mut place = 0;
     let mut count = 0;
@@ -155,13 +155,13 @@ fn read_longwords(field: &[u8], picture: &mut [u32]) -> Count
         if times == 0 {
             return Count::Bad;
         }
-        if picture.len() - count < times {
+        if p.len() - count < times {
             return Count::Bad;
         }
         if field.len() - place < width {
             return Count::Bad;
         }
-        longwords::fill(picture, count, times, longword);
+        longwords::fill(p, count, times, longword);
         count += times;
         place += width;
     }
@@ -169,8 +169,8 @@ fn read_longwords(field: &[u8], picture: &mut [u32]) -> Count
 }
 
 // Reads a picture field, and answers how many longwords there are.
-fn read_picture(field: &[u8], picture: &mut [u32]) -> Count
-    ensures { λ r. ⌜ Within r (length (now (picture .entry))) ⌝ }
+fn read_picture(p: &mut [u32], field: &[u8]) -> Count
+    ensures { λ r. ⌜ Within r (length (now (p .entry))) ⌝ }
 {
     if texts::is_none(field) {
         return Count::Of(0);
@@ -178,18 +178,18 @@ fn read_picture(field: &[u8], picture: &mut [u32]) -> Count
     if field.len() == 0 {
         return Count::Bad;
     }
-    read_longwords(field, picture)
+    read_longwords(p, field)
 }
 
 // Reads the fields behind a call field.
 fn read_rest(
+    p: &mut [u32],
     call: Call,
     characters: usize,
     rest: &[u8],
     registers: &mut [u32],
-    picture: &mut [u32],
 ) -> Trial
-    ensures { λ r. ⌜ Fitting r characters (length (now (registers .entry))) (length (now (picture .entry))) ⌝ }
+    ensures { λ r. ⌜ Fitting r characters (length (now (registers .entry))) (length (now (p .entry))) ⌝ }
 {
     let second = texts::blank_in(rest);
     if second == rest.len() {
@@ -199,15 +199,15 @@ fn read_rest(
     let Count::Of(count) = read_registers(&rest[..second], registers) else {
         return Trial::Bad;
     };
-    let Count::Of(size) = read_picture(&rest[last..], picture) else {
+    let Count::Of(size) = read_picture(p, &rest[last..]) else {
         return Trial::Bad;
     };
     Trial::Good(call, characters, count, size)
 }
 
 // Reads a line: its call, its name, its registers and its picture.
-pub fn read_trial(line: &[u8], registers: &mut [u32], name: &mut [u8], picture: &mut [u32]) -> Trial
-    ensures { λ r. ⌜ Fitting r (length (now (name .entry))) (length (now (registers .entry))) (length (now (picture .entry))) ⌝ }
+pub fn read_trial(p: &mut [u32], line: &[u8], registers: &mut [u32], name: &mut [u8]) -> Trial
+    ensures { λ r. ⌜ Fitting r (length (now (name .entry))) (length (now (registers .entry))) (length (now (p .entry))) ⌝ }
 {
     if LONGEST_LINE < line.len() {
         return Trial::Bad;
@@ -222,5 +222,5 @@ pub fn read_trial(line: &[u8], registers: &mut [u32], name: &mut [u8], picture: 
         return Trial::Bad;
     }
     let characters = read_name(&line[..first], name);
-    read_rest(call, characters, &line[next..], registers, picture)
+    read_rest(p, call, characters, &line[next..], registers)
 }

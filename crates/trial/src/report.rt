@@ -29,12 +29,12 @@ fn write_change(mark: u8, index: usize, longword: u32, out: &mut [u8], used: usi
 }
 
 // The longwords that changed, as a field.
-fn write_changes(before: &[u32], after: &[u32], out: &mut [u8], used: usize) -> usize {
+fn write_changes(p: &[u32], before: &[u32], out: &mut [u8], used: usize) -> usize {
     let mut place = used;
     let mut mark = b' ';
     let mut i = 0;
-    while i < after.len() {
-        let longword = longwords::longword_at(after, i);
+    while i < p.len() {
+        let longword = longwords::longword_at(p, i);
         if longword != longwords::longword_at(before, i) {
             place = write_change(mark, i, longword, out, place);
             mark = b',';
@@ -50,10 +50,10 @@ fn write_changes(before: &[u32], after: &[u32], out: &mut [u8], used: usize) -> 
 
 // Answers a trial.
 pub fn write_answer(
+    p: &[u32],
+    before: &[u32],
     answer: Answer,
     registers: &[u32],
-    before: &[u32],
-    after: &[u32],
     out: &mut [u8],
     used: usize,
 ) -> usize {
@@ -61,6 +61,6 @@ pub fn write_answer(
     let keyed = writing::write_number(out, start, 8, answer.key);
     let picked = write_pick(answer, out, keyed);
     let listed = write_registers(registers, out, picked);
-    let changed = write_changes(before, after, out, listed);
+    let changed = write_changes(p, before, out, listed);
     writing::write_character(out, changed, b'\n')
 }

@@ -5,6 +5,7 @@ use crate::Trial;
 use crate::fields;
 use crate::longwords;
 use crate::report;
+use crate::room;
 use libc::STDIN_FILENO;
 ghost use Prim.Native.Nat.{_≤_};
 ghost use lib.ListN.{length};
@@ -19,55 +20,53 @@ fn answer_of(key: i32) -> Answer {
 }
 
 // Makes a call.
-fn make_call(call: Call, registers: &mut [u32], name: &[u8], picture: &mut [u32]) -> Answer {
+fn make_call(p: &mut [u32], call: Call, registers: &mut [u32], name: &[u8]) -> Answer {
     match call {
-        Call::Trap(trap) => answer_of(manager::call(trap, registers, name, picture)),
+        Call::Trap(trap) => answer_of(manager::call(trap, registers, name, p)),
         Call::Pick => {
-            let picked = manager::pick(picture);
+            let picked = manager::pick(p);
             Answer {
                 key: words::bits_of(picked.key),
                 number: picked.number,
                 is_pick: true,
             }
         }
-        Call::Tick => answer_of(manager::tick(picture)),
-        Call::Fresh(size, heap) => answer_of(manager::fresh(picture, size, heap)),
+        Call::Tick => answer_of(manager::tick(p)),
+        Call::Fresh(size, heap) => answer_of(manager::fresh(p, size, heap)),
         Call::Bad => answer_of(-15),
     }
 }
 
 // Makes a trial's call and answers it.
 fn try_call(
+    p: &mut [u32],
     call: Call,
     registers: &mut [u32],
     name: &[u8],
-    picture: &mut [u32],
-    before: &mut [u32],
     out: &mut [u8],
     used: usize,
 ) -> usize {
-    longwords::copy(picture, before);
-    let answer = make_call(call, registers, name, picture);
-    report::write_answer(answer, registers, before, picture, out, used)
+    let mut before = room::picture_room();
+    longwords::copy(p, &mut before);
+    let answer = make_call(p, call, registers, name);
+    report::write_answer(p, &before, answer, registers, out, used)
 }
 
-// Answers a line that asks for a call.
-fn answer_call(
+// Answers a line that asks for a call, in the rooms that are lent.
+fn answer_in(
+    p: &mut [u32],
     line: &[u8],
     registers: &mut [u32],
     name: &mut [u8],
-    picture: &mut [u32],
-    before: &mut [u32],
     out: &mut [u8],
     used: usize,
 ) -> usize {
-    match fields::read_trial(line, registers, name, picture) {
+    match fields::read_trial(p, line, registers, name) {
         Trial::Good(call, characters, count, size) => try_call(
+            &mut p[..size],
             call,
             &mut registers[..count],
             &name[..characters],
-            &mut picture[..size],
-            before,
             out,
             used,
         ),
@@ -75,54 +74,31 @@ fn answer_call(
     }
 }
 
+// Answers a line that asks for a call.
+fn answer_call(line: &[u8], out: &mut [u8], used: usize) -> usize {
+    let mut picture = room::picture_room();
+    let mut registers = room::registers_room();
+    let mut name = io::buffer();
+    answer_in(&mut picture, line, &mut registers, &mut name, out, used)
+}
+
 // Answers a line: it asks for an error text or for a call.
-fn answer_line(
-    line: &[u8],
-    registers: &mut [u32],
-    name: &mut [u8],
-    picture: &mut [u32],
-    before: &mut [u32],
-    system: &mut [u8],
-    driver: &mut [u8],
-    out: &mut [u8],
-    used: usize,
-) -> usize {
+fn answer_line(line: &[u8], out: &mut [u8], used: usize) -> usize {
     if texts::is_asked(line) {
-        return texts::answer_error(line, system, driver, out, used);
+        return texts::answer_error(line, out, used);
     }
-    answer_call(line, registers, name, picture, before, out, used)
+    answer_call(line, out, used)
 }
 
 // Takes a character of the input: a line feed has the line answered, any other goes into it.
-fn take(
-    character: u8,
-    progress: Progress,
-    line: &mut [u8],
-    registers: &mut [u32],
-    name: &mut [u8],
-    picture: &mut [u32],
-    before: &mut [u32],
-    system: &mut [u8],
-    driver: &mut [u8],
-    out: &mut [u8],
-) -> Progress
+fn take(character: u8, progress: Progress, line: &mut [u8], out: &mut [u8]) -> Progress
     requires { ⌜ progress .length ≤ length (now line) ⌝ }
     ensures { λ r. ⌜ r .length ≤ length (now (line .entry)) ⌝ }
 {
     let length = progress.length;
     let used = progress.used;
     if character == b'\n' {
-        let end = answer_line(
-            &line[..length],
-            registers,
-            name,
-            picture,
-            before,
-            system,
-            driver,
-            out,
-            used,
-        );
+        let end = answer_line(&line[..length], out, used);
         return Progress {
             length: 0,
             used: end,
@@ -136,113 +112,39 @@ fn take(
 }
 
 // Takes the characters of a chunk.
-fn take_all(
-    chunk: &[u8],
-    progress: Progress,
-    line: &mut [u8],
-    registers: &mut [u32],
-    name: &mut [u8],
-    picture: &mut [u32],
-    before: &mut [u32],
-    system: &mut [u8],
-    driver: &mut [u8],
-    out: &mut [u8],
-) -> Progress
+fn take_all(chunk: &[u8], progress: Progress, line: &mut [u8], out: &mut [u8]) -> Progress
     requires { ⌜ progress .length ≤ length (now line) ⌝ }
     ensures { λ r. ⌜ r .length ≤ length (now (line .entry)) ⌝ }
 {
     let mut now = progress;
     let mut i = 0;
     while i < chunk.len() {
-        now = take(
-            chunk[i],
-            now,
-            line,
-            registers,
-            name,
-            picture,
-            before,
-            system,
-            driver,
-            out,
-        );
+        now = take(chunk[i], now, line, out);
         i += 1;
     }
     now
 }
 
 // Answers what stands behind the last line feed, and writes the output out.
-fn finish(
-    progress: Progress,
-    line: &mut [u8],
-    registers: &mut [u32],
-    name: &mut [u8],
-    picture: &mut [u32],
-    before: &mut [u32],
-    system: &mut [u8],
-    driver: &mut [u8],
-    out: &mut [u8],
-)
+fn finish(progress: Progress, line: &mut [u8], out: &mut [u8])
     requires { ⌜ progress .length ≤ length (now line) ⌝ }
 {
     if progress.length == 0 {
         pieces::write_out(out, progress.used);
         return;
     }
-    let last = take(
-        b'\n',
-        progress,
-        line,
-        registers,
-        name,
-        picture,
-        before,
-        system,
-        driver,
-        out,
-    );
+    let last = take(b'\n', progress, line, out);
     pieces::write_out(out, last.used);
 }
 
 // Answers each line of standard input, in the rooms that are lent. There are more turns than any run uses up.
-pub fn answer_all(
-    chunk: &mut [u8],
-    line: &mut [u8],
-    registers: &mut [u32],
-    name: &mut [u8],
-    picture: &mut [u32],
-    before: &mut [u32],
-    system: &mut [u8],
-    driver: &mut [u8],
-    out: &mut [u8],
-) {
+pub fn answer_all(chunk: &mut [u8], line: &mut [u8], out: &mut [u8]) {
     let mut progress = Progress { length: 0, used: 0 };
     let mut turns = u64::MAX;
     while 0 < turns {
         let got = io::read_full(STDIN_FILENO, chunk);
-        progress = take_all(
-            &chunk[..got],
-            progress,
-            line,
-            registers,
-            name,
-            picture,
-            before,
-            system,
-            driver,
-            out,
-        );
+        progress = take_all(&chunk[..got], progress, line, out);
         turns = pieces::turns_after(turns, got);
     }
-    finish(
-        progress,
-        line,
-        registers,
-        name,
-        picture,
-        before,
-        system,
-        driver,
-        out,
-    );
+    finish(progress, line, out);
 }

@@ -8,16 +8,14 @@ use Rattle.session.proofs.running.answer_all.Statement.{statement}
 use Rattle.session.proofs.running.answer_all.Tie as tie
 
 abbrev Inv-loop : tie.InvT-loop
-Inv-loop chunk₀ line₀ registers₀ name₀ picture₀ out₀ progress₀ turns₀ chunk line registers name picture out progress turns =
-    (progress .length ≤ length line) × (223 ≤ length name) × (length chunk ≡ length chunk₀)
-    × (length line ≡ length line₀) × (length registers ≡ length registers₀) × (length name ≡ length name₀)
-    × (length picture ≡ length picture₀) × (length out ≡ length out₀)
+Inv-loop p₀ chunk₀ line₀ out₀ progress₀ turns₀ p chunk line out progress turns =
+    (progress .length ≤ length line) × (length p ≡ length p₀) × (length chunk ≡ length chunk₀) × (length line ≡ length line₀) × (length out ≡ length out₀)
 
 abbrev μ-loop : tie.MeasureT-loop
-μ-loop chunk₀ line₀ registers₀ name₀ picture₀ out₀ progress₀ turns₀ chunk line registers name picture out progress turns = turns
+μ-loop p₀ chunk₀ line₀ out₀ progress₀ turns₀ p chunk line out progress turns = turns
 
 loop-holds : tie.Need-loop-holds Inv-loop μ-loop
-loop-holds c = let s = c .before .before .before .before .before .before in (omega arith, s .pre, refl, refl, refl, refl, refl, refl)
+loop-holds c = (omega arith, refl, refl, refl, refl)
 
 read-requires : tie.Need-read-requires Inv-loop μ-loop
 read-requires c κs = search needs
@@ -32,7 +30,7 @@ slice-aggregate-take-all : tie.Need-slice-aggregate-take-all Inv-loop μ-loop
 slice-aggregate-take-all c = search needs
 
 take-all-requires : tie.Need-take-all-requires Inv-loop μ-loop
-take-all-requires c κs = let d = c .before .before .before .before .before .before .before .before .before .before .before .before .before .loop in (d .inv .0, d .inv .1)
+take-all-requires c κs = c .before .before .before .before .before .before .before .before .before .before .before .loop .inv .0
 
 turns-after-requires : tie.Need-turns-after-requires Inv-loop μ-loop
 turns-after-requires c κs = search needs
@@ -42,15 +40,15 @@ loop-less c = search needs
 
 loop-again : tie.Need-loop-again Inv-loop μ-loop
 loop-again c =
-    let e = c .before .before .before .before .before .before .before .before .before .before .before in
-    let f = e .before .before .before .before .before .before .before .before .before .before .before in
+    let e = c .before .before .before .before .before .before .before in
+    let f = e .before .before .before .before .before .before .before .before .before in
     let d = f .before .before .before .loop in
     let t = e .take-all in
-    let k = t .kept .1 .1 in
-    (rw (k .0) (t .ensures), rw (k .1 .1 .0) (d .inv .1), f .read .kept .1 .0 ∙ d .inv .2, k .0 ∙ d .inv .3, k .1 .0 ∙ d .inv .4, k .1 .1 .0 ∙ d .inv .5, k .1 .1 .1 .0 ∙ d .inv .6, k .1 .1 .1 .1 .0 ∙ d .inv .7)
+    let k = t .kept .1 .1 .1 in
+    (rw (k .0) (t .ensures), t .kept .0 ∙ d .inv .1, f .read .kept .1 .0 ∙ d .inv .2, k .0 ∙ d .inv .3, k .1 .0 ∙ d .inv .4)
 
 finish-requires : tie.Need-finish-requires Inv-loop μ-loop
-finish-requires c κs = let d = c .before .before .before .before .before .before .loop in (d .inv .0, d .inv .1)
+finish-requires c κs = c .before .before .before .before .loop .inv .0
 
 same-length : tie.Need-same-length Inv-loop μ-loop
 same-length c = search needs
@@ -63,12 +61,6 @@ same-length-3 c = search needs
 
 same-length-4 : tie.Need-same-length-4 Inv-loop μ-loop
 same-length-4 c = search needs
-
-same-length-5 : tie.Need-same-length-5 Inv-loop μ-loop
-same-length-5 c = search needs
-
-same-length-6 : tie.Need-same-length-6 Inv-loop μ-loop
-same-length-6 c = search needs
 
 returns : tie.Need-returns Inv-loop μ-loop
 returns c = tt
@@ -93,6 +85,4 @@ answer-all-spec =
     same-length-2
     same-length-3
     same-length-4
-    same-length-5
-    same-length-6
     returns)

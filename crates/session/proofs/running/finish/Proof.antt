@@ -9,7 +9,7 @@ returns : tie.Need-returns
 returns c = search needs
 
 slice-aggregate-answer-line : tie.Need-slice-aggregate-answer-line
-slice-aggregate-answer-line c = let s = c .before .before .before .before .before .before .before in sym (length-take-le (s .args .progress .length) (s .args .line .now) (s .pre .0))
+slice-aggregate-answer-line c = let s = c .before .before .before .before .before .before in sym (length-take-le (s .args .progress .length) (s .args .line .now) (s .pre))
 
 answer-line-requires : tie.Need-answer-line-requires
 answer-line-requires c κs = search needs
@@ -22,12 +22,6 @@ same-length c = search needs
 
 same-length-2 : tie.Need-same-length-2
 same-length-2 c = search needs
-
-same-length-3 : tie.Need-same-length-3
-same-length-3 c = search needs
-
-same-length-4 : tie.Need-same-length-4
-same-length-4 c = search needs
 
 returns-2 : tie.Need-returns-2
 returns-2 c = search needs
@@ -42,6 +36,4 @@ finish-spec =
     write-out-requires
     same-length
     same-length-2
-    same-length-3
-    same-length-4
     returns-2)

@@ -31,25 +31,13 @@ slice-reshare-prefix-answer-line : tie.Need-slice-reshare-prefix-answer-line
 slice-reshare-prefix-answer-line c = search needs
 
 slice-aggregate-answer-line : tie.Need-slice-aggregate-answer-line
-slice-aggregate-answer-line c = let k = c .before .before .before .keep in sym (length-take-le (k .result) (k .last .1 .1 .0) (omega (arith, k .ensures .0 .1, k .kept .1 .1 .0)))
+slice-aggregate-answer-line c = let k = c .before .before .before .before .keep in sym (length-take-le (k .result) (k .last .1 .1 .0) (omega (arith, k .ensures .0 .1, k .kept .1 .1 .0)))
 
 answer-line-requires-2 : tie.Need-answer-line-requires-2
 answer-line-requires-2 c κs = search needs
 
 same-length-5 : tie.Need-same-length-5
 same-length-5 c = search needs
-
-same-length-6 : tie.Need-same-length-6
-same-length-6 c = search needs
-
-same-length-7 : tie.Need-same-length-7
-same-length-7 c = search needs
-
-same-length-8 : tie.Need-same-length-8
-same-length-8 c = search needs
-
-same-length-9 : tie.Need-same-length-9
-same-length-9 c = search needs
 
 returns-2 : tie.Need-returns-2
 returns-2 c = search needs
@@ -61,16 +49,12 @@ take-spec =
     answer-line-requires
     same-length
     same-length-2
-    same-length-3
-    same-length-4
     returns
     keep-requires
     slice-reshare-prefix-answer-line
     slice-aggregate-answer-line
     answer-line-requires-2
+    same-length-3
+    same-length-4
     same-length-5
-    same-length-6
-    same-length-7
-    same-length-8
-    same-length-9
     returns-2)

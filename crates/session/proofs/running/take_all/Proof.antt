@@ -8,52 +8,50 @@ use Rattle.session.proofs.running.take_all.Statement.{statement}
 use Rattle.session.proofs.running.take_all.Tie as tie
 
 abbrev Inv-loop : tie.InvT-loop
-Inv-loop chunk line₀ registers₀ name₀ picture₀ out₀ now₀ start₀ line registers name picture out now start =
-    (start ≤ length chunk) × (now .length ≤ length line) × (223 ≤ length name)
-    × (length line ≡ length line₀) × (length registers ≡ length registers₀) × (length name ≡ length name₀)
-    × (length picture ≡ length picture₀) × (length out ≡ length out₀)
+Inv-loop p₀ chunk line₀ out₀ now₀ start₀ p line out now start =
+    (start ≤ length chunk) × (now .length ≤ length line) × (length p ≡ length p₀) × (length line ≡ length line₀) × (length out ≡ length out₀)
 
 abbrev μ-loop : tie.MeasureT-loop
-μ-loop chunk line₀ registers₀ name₀ picture₀ out₀ now₀ start₀ line registers name picture out now start = length chunk - start
+μ-loop p₀ chunk line₀ out₀ now₀ start₀ p line out now start = length chunk - start
 
 -- a line feed stands in the chunk, behind the line's start
-inside : (c : tie.Else1 Inv-loop μ-loop) → (c .before .before .loop .start ≤ c .before .line-end .result) × (c .before .line-end .result < length (c .before .before .before .before .before .before .before .before .before .args .chunk .now))
+inside : (c : tie.Else1 Inv-loop μ-loop) → (c .before .before .loop .start ≤ c .before .line-end .result) × (c .before .line-end .result < length (c .before .before .before .before .before .before .before .args .chunk .now))
 inside c =
     let e = c .before .line-end .ensures .1 in
-    let m : c .before .line-end .result ≤ length (c .before .before .before .before .before .before .before .before .before .args .chunk .now) = e .1 (c .before .before .loop .inv .0) in
+    let m : c .before .line-end .result ≤ length (c .before .before .before .before .before .before .before .args .chunk .now) = e .1 (c .before .before .loop .inv .0) in
     (e .0, omega (arith, c .if1 .left))
 
 loop-holds : tie.Need-loop-holds Inv-loop μ-loop
-loop-holds c = let s = c .before .before .before .before .before .before in (omega arith, s .pre .0, s .pre .1, refl, refl, refl, refl, refl)
+loop-holds c = let s = c .before .before .before .before in (omega arith, s .pre, refl, refl, refl)
 
 line-end-requires : tie.Need-line-end-requires Inv-loop μ-loop
 line-end-requires c κs = search needs
 
 sub-take : tie.Need-sub-take Inv-loop μ-loop
-sub-take c = omega (arith, inside c)
+sub-take c = omega (arith, inside (c .before))
 
 part-take-start : tie.Need-part-take-start Inv-loop μ-loop
-part-take-start c = omega (arith, inside c)
+part-take-start c = omega (arith, inside (c .before))
 
 part-take-end : tie.Need-part-take-end Inv-loop μ-loop
-part-take-end c = omega (arith, inside c)
+part-take-end c = omega (arith, inside (c .before))
 
 take-requires : tie.Need-take-requires Inv-loop μ-loop
-take-requires c κs = let d = c .before .before .before .before .before .before .before .before .loop in (d .inv .1, d .inv .2)
+take-requires c κs = c .before .before .before .before .before .before .loop .inv .1
 
 add-start : tie.Need-add-start Inv-loop μ-loop
-add-start c = omega (arith, inside (c .before .before .before .before .before .before .before .before .before .before .before .before .before .before .before .before .before))
+add-start c = omega (arith, inside (c .before .before .before .before .before .before .before .before .before .before .before))
 
 loop-less : tie.Need-loop-less Inv-loop μ-loop
-loop-less c = omega (arith, inside (c .before .before .before .before .before .before .before .before .before .before .before .before .before .before .before .before .before))
+loop-less c = omega (arith, inside (c .before .before .before .before .before .before .before .before .before .before .before))
 
 loop-again : tie.Need-loop-again Inv-loop μ-loop
 loop-again c =
-    let t = c .before .before .before .before .before .before .before .before .before .before .take in
-    let e = c .before .before .before .before .before .before .before .before .before .before .before .before .before .before .before .before .before in
+    let t = c .before .before .before .before .before .before .take in
+    let e = c .before .before .before .before .before .before .before .before .before .before .before in
     let d = e .before .before .loop in
-    let k = t .kept .1 .1 in
-    (omega (arith, inside e), omega (arith, t .ensures), rw (k .1 .1 .0) (d .inv .2), k .0 ∙ d .inv .3, k .1 .0 ∙ d .inv .4, k .1 .1 .0 ∙ d .inv .5, k .1 .1 .1 .0 ∙ d .inv .6, k .1 .1 .1 .1 .0 ∙ d .inv .7)
+    let k = t .kept .1 .1 .1 in
+    (omega (arith, inside e), omega (arith, t .ensures), t .kept .0 ∙ d .inv .2, k .0 ∙ d .inv .3, k .1 .0 ∙ d .inv .4)
 
 write-out-requires : tie.Need-write-out-requires Inv-loop μ-loop
 write-out-requires c κs = search needs
@@ -78,12 +76,6 @@ same-length-2 c = search needs
 
 same-length-3 : tie.Need-same-length-3 Inv-loop μ-loop
 same-length-3 c = search needs
-
-same-length-4 : tie.Need-same-length-4 Inv-loop μ-loop
-same-length-4 c = search needs
-
-same-length-5 : tie.Need-same-length-5 Inv-loop μ-loop
-same-length-5 c = search needs
 
 returns : tie.Need-returns Inv-loop μ-loop
 returns c = let k = c .before .before in let d = k .before .before .before .before .before .before .before .loop in rw (d .inv .3) at (k .keep .ensures .0 .1)
@@ -111,6 +103,4 @@ take-all-spec =
     same-length
     same-length-2
     same-length-3
-    same-length-4
-    same-length-5
     returns)

@@ -8,12 +8,12 @@ use Rattle.trial.proofs.fields.read_longwords.Statement.{statement}
 use Rattle.trial.proofs.fields.read_longwords.Tie as tie
 
 abbrev Inv-loop : tie.InvT-loop
-Inv-loop field picture₀ place₀ count₀ picture place count = (place ≤ length field) × (count ≤ length picture) × (length picture ≡ length picture₀)
+Inv-loop p₀ field place₀ count₀ p place count = (place ≤ length field) × (count ≤ length p) × (length p ≡ length p₀)
 
 abbrev μ-loop : tie.MeasureT-loop
-μ-loop field picture₀ place₀ count₀ picture place count = length field - place
+μ-loop p₀ field place₀ count₀ p place count = length field - place
 
-kept : (c : tie.After-slice-known2 Inv-loop μ-loop) → length (c .before .before .fill .last .0) ≡ length (c .before .before .before .before .before .before .before .before .before .before .before .before .before .before .before .loop .picture)
+kept : (c : tie.After-slice-known2 Inv-loop μ-loop) → length (c .before .before .fill .last .0) ≡ length (c .before .before .before .before .before .before .before .before .before .before .before .before .before .before .before .loop .p)
 kept c = c .before .before .fill .kept .0
 
 loop-holds : tie.Need-loop-holds Inv-loop μ-loop

@@ -61,7 +61,7 @@ returns-4 c =
     let r = c .before .before .before .before in
     let n = r .before .before .before .before .before .before in
     let a = c .before .before .before .before .before .before .before .before .before .before .before .before .before .before .before .before .before .before .before .before .before .before .before .args in
-    longer-name (r .read-rest .result) (n .read-name .result) (length (a .registers .now)) (length (a .picture .now)) (length (a .name .now)) (n .read-name .ensures) (r .read-rest .ensures)
+    longer-name (r .read-rest .result) (n .read-name .result) (length (a .registers .now)) (length (a .p .now)) (length (a .name .now)) (n .read-name .ensures) (r .read-rest .ensures)
 
 pub read-trial-spec : {M : Type 1} → statement M
 read-trial-spec =

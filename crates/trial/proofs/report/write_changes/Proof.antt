@@ -9,10 +9,10 @@ use Rattle.trial.proofs.report.write_changes.Statement.{statement}
 use Rattle.trial.proofs.report.write_changes.Tie as tie
 
 abbrev Inv-loop : tie.InvT-loop
-Inv-loop before after out₀ used place₀ mark₀ i₀ out place mark i = (i ≤ length after) × (length out ≡ length out₀)
+Inv-loop p before out₀ used place₀ mark₀ i₀ out place mark i = (i ≤ length p) × (length out ≡ length out₀)
 
 abbrev μ-loop : tie.MeasureT-loop
-μ-loop before after out₀ used place₀ mark₀ i₀ out place mark i = length after - i
+μ-loop p before out₀ used place₀ mark₀ i₀ out place mark i = length p - i
 
 loop-holds : tie.Need-loop-holds Inv-loop μ-loop
 loop-holds c = (omega arith, refl)

@@ -8,16 +8,13 @@ use Rattle.trial.proofs.running.answer_all.Statement.{statement}
 use Rattle.trial.proofs.running.answer_all.Tie as tie
 
 abbrev Inv-loop : tie.InvT-loop
-Inv-loop chunk₀ line₀ registers₀ name₀ picture₀ before₀ system₀ driver₀ out₀ progress₀ turns₀ chunk line registers name picture before system driver out progress turns =
-    (progress .length ≤ length line) × (length chunk ≡ length chunk₀)
-    × (length line ≡ length line₀) × (length registers ≡ length registers₀) × (length name ≡ length name₀)
-    × (length picture ≡ length picture₀) × (length before ≡ length before₀) × (length system ≡ length system₀) × (length driver ≡ length driver₀) × (length out ≡ length out₀)
+Inv-loop chunk₀ line₀ out₀ progress₀ turns₀ chunk line out progress turns = (progress .length ≤ length line) × (length chunk ≡ length chunk₀) × (length line ≡ length line₀) × (length out ≡ length out₀)
 
 abbrev μ-loop : tie.MeasureT-loop
-μ-loop chunk₀ line₀ registers₀ name₀ picture₀ before₀ system₀ driver₀ out₀ progress₀ turns₀ chunk line registers name picture before system driver out progress turns = turns
+μ-loop chunk₀ line₀ out₀ progress₀ turns₀ chunk line out progress turns = turns
 
 loop-holds : tie.Need-loop-holds Inv-loop μ-loop
-loop-holds c = (omega arith, refl, refl, refl, refl, refl, refl, refl, refl, refl)
+loop-holds c = (omega arith, refl, refl, refl)
 
 read-full-requires : tie.Need-read-full-requires Inv-loop μ-loop
 read-full-requires c κs = search needs
@@ -39,12 +36,12 @@ loop-less c = search needs
 
 loop-again : tie.Need-loop-again Inv-loop μ-loop
 loop-again c =
-    let e = c .before .before .before .before .before .before .before .before .before .before .before .before .before .before .before .before .before in
-    let f = e .before .before .before .before .before .before .before .before .before .before .before .before in
+    let e = c .before .before .before .before .before in
+    let f = e .before .before .before .before .before .before in
     let d = f .before .before .before .loop in
     let t = e .take-all in
     let k = t .kept .1 .1 in
-    (rw (k .0) (t .ensures), f .read-full .kept .1 .0 ∙ d .inv .1, k .0 ∙ d .inv .2, k .1 .0 ∙ d .inv .3, k .1 .1 .0 ∙ d .inv .4, k .1 .1 .1 .0 ∙ d .inv .5, k .1 .1 .1 .1 .0 ∙ d .inv .6, k .1 .1 .1 .1 .1 .0 ∙ d .inv .7, k .1 .1 .1 .1 .1 .1 .0 ∙ d .inv .8, k .1 .1 .1 .1 .1 .1 .1 .0 ∙ d .inv .9)
+    (rw (k .0) (t .ensures), f .read-full .kept .1 .0 ∙ d .inv .1, k .0 ∙ d .inv .2, k .1 .0 ∙ d .inv .3)
 
 finish-requires : tie.Need-finish-requires Inv-loop μ-loop
 finish-requires c κs = search needs
@@ -57,24 +54,6 @@ same-length-2 c = search needs
 
 same-length-3 : tie.Need-same-length-3 Inv-loop μ-loop
 same-length-3 c = search needs
-
-same-length-4 : tie.Need-same-length-4 Inv-loop μ-loop
-same-length-4 c = search needs
-
-same-length-5 : tie.Need-same-length-5 Inv-loop μ-loop
-same-length-5 c = search needs
-
-same-length-6 : tie.Need-same-length-6 Inv-loop μ-loop
-same-length-6 c = search needs
-
-same-length-7 : tie.Need-same-length-7 Inv-loop μ-loop
-same-length-7 c = search needs
-
-same-length-8 : tie.Need-same-length-8 Inv-loop μ-loop
-same-length-8 c = search needs
-
-same-length-9 : tie.Need-same-length-9 Inv-loop μ-loop
-same-length-9 c = search needs
 
 returns : tie.Need-returns Inv-loop μ-loop
 returns c = tt
@@ -97,10 +76,4 @@ answer-all-spec =
     same-length
     same-length-2
     same-length-3
-    same-length-4
-    same-length-5
-    same-length-6
-    same-length-7
-    same-length-8
-    same-length-9
     returns)

@@ -9,7 +9,7 @@ slice-reshare-prefix-answer-line : tie.Need-slice-reshare-prefix-answer-line
 slice-reshare-prefix-answer-line c = search needs
 
 slice-aggregate-answer-line : tie.Need-slice-aggregate-answer-line
-slice-aggregate-answer-line c = let s = c .before .before .before .before .before .before .before .before .before .before in counted (s .args .progress .length) (s .args .line .now) (s .pre)
+slice-aggregate-answer-line c = let s = c .before .before .before .before in counted (s .args .progress .length) (s .args .line .now) (s .pre)
 
 answer-line-requires : tie.Need-answer-line-requires
 answer-line-requires c κs = search needs
@@ -20,37 +20,19 @@ same-length c = search needs
 same-length-2 : tie.Need-same-length-2
 same-length-2 c = search needs
 
-same-length-3 : tie.Need-same-length-3
-same-length-3 c = search needs
-
-same-length-4 : tie.Need-same-length-4
-same-length-4 c = search needs
-
-same-length-5 : tie.Need-same-length-5
-same-length-5 c = search needs
-
-same-length-6 : tie.Need-same-length-6
-same-length-6 c = search needs
-
-same-length-7 : tie.Need-same-length-7
-same-length-7 c = search needs
-
-same-length-8 : tie.Need-same-length-8
-same-length-8 c = search needs
-
 returns : tie.Need-returns
 returns c = search needs
 
 write-character-requires : tie.Need-write-character-requires
 write-character-requires c κs = search needs
 
-same-length-9 : tie.Need-same-length-9
-same-length-9 c = search needs
+same-length-3 : tie.Need-same-length-3
+same-length-3 c = search needs
 
 returns-2 : tie.Need-returns-2
 returns-2 c =
     let w = c .before .before in
-    let s = w .before .before .before .before .before .before .before .before .before .before .before in
+    let s = w .before .before .before .before .before in
     rw (w .write-character .ensures .0) (past-inside (s .args .line .now) (s .args .progress .length) 1 (s .pre))
 
 pub take-spec : {M : Type 1} → statement M
@@ -62,13 +44,7 @@ take-spec =
     answer-line-requires
     same-length
     same-length-2
-    same-length-3
-    same-length-4
-    same-length-5
-    same-length-6
-    same-length-7
-    same-length-8
     returns
     write-character-requires
-    same-length-9
+    same-length-3
     returns-2)

@@ -8,59 +8,38 @@ use Rattle.trial.proofs.running.take_all.Statement.{statement}
 use Rattle.trial.proofs.running.take_all.Tie as tie
 
 abbrev Inv-loop : tie.InvT-loop
-Inv-loop chunk line₀ registers₀ name₀ picture₀ before₀ system₀ driver₀ out₀ now₀ i₀ line registers name picture before system driver out now i =
-    (i ≤ length chunk) × (now .length ≤ length line)
-    × (length line ≡ length line₀) × (length registers ≡ length registers₀) × (length name ≡ length name₀)
-    × (length picture ≡ length picture₀) × (length before ≡ length before₀) × (length system ≡ length system₀) × (length driver ≡ length driver₀) × (length out ≡ length out₀)
+Inv-loop chunk line₀ out₀ now₀ i₀ line out now i = (i ≤ length chunk) × (now .length ≤ length line) × (length line ≡ length line₀) × (length out ≡ length out₀)
 
 abbrev μ-loop : tie.MeasureT-loop
-μ-loop chunk line₀ registers₀ name₀ picture₀ before₀ system₀ driver₀ out₀ now₀ i₀ line registers name picture before system driver out now i = length chunk - i
+μ-loop chunk line₀ out₀ now₀ i₀ line out now i = length chunk - i
 
 loop-holds : tie.Need-loop-holds Inv-loop μ-loop
-loop-holds c = (omega arith, c .before .before .before .before .before .before .before .before .before .pre, refl, refl, refl, refl, refl, refl, refl, refl)
+loop-holds c = (omega arith, c .before .before .before .pre, refl, refl)
 
 shared-slice-read-take : tie.Need-shared-slice-read-take Inv-loop μ-loop
 shared-slice-read-take c = search needs
 
 take-requires : tie.Need-take-requires Inv-loop μ-loop
-take-requires c κs = c .before .before .before .before .before .before .before .before .before .before .loop .inv .1
+take-requires c κs = c .before .before .before .before .loop .inv .1
 
 add-i : tie.Need-add-i Inv-loop μ-loop
-add-i c = let w = c .before .before .before .before .before .before .before .before .before .before .before .before .before .before .before .before .before .before .before .before .before .before .before .before .before .before in omega (arith, w .loop-test .taken, w .before .before .before .before .before .before .before .before .before .before .before .good .0)
+add-i c = let w = c .before .before .before .before .before .before .before .before in omega (arith, w .loop-test .taken, w .before .before .before .before .before .good .0)
 
 loop-less : tie.Need-loop-less Inv-loop μ-loop
 loop-less c = search needs
 
 loop-again : tie.Need-loop-again Inv-loop μ-loop
 loop-again c =
-    let t = c .before .before .before .before .before .before .before .before .before .before .before .before .before .before .before .before .take in
-    let d = c .before .before .before .before .before .before .before .before .before .before .before .before .before .before .before .before .before .before .before .before .before .before .before .before .before .before .before .loop in
+    let t = c .before .before .before .before .take in
+    let d = c .before .before .before .before .before .before .before .before .before .loop in
     let k = t .kept .1 .1 in
-    (omega (arith, c .before .before .before .before .before .before .before .before .before .before .before .before .before .before .before .before .before .before .before .before .before .before .before .before .before .before .loop-test .taken), rw (k .0) (t .ensures), k .0 ∙ d .inv .2, k .1 .0 ∙ d .inv .3, k .1 .1 .0 ∙ d .inv .4, k .1 .1 .1 .0 ∙ d .inv .5, k .1 .1 .1 .1 .0 ∙ d .inv .6, k .1 .1 .1 .1 .1 .0 ∙ d .inv .7, k .1 .1 .1 .1 .1 .1 .0 ∙ d .inv .8, k .1 .1 .1 .1 .1 .1 .1 .0 ∙ d .inv .9)
+    (omega (arith, c .before .before .before .before .before .before .before .before .loop-test .taken), rw (k .0) (t .ensures), k .0 ∙ d .inv .2, k .1 .0 ∙ d .inv .3)
 
 same-length : tie.Need-same-length Inv-loop μ-loop
 same-length c = search needs
 
 same-length-2 : tie.Need-same-length-2 Inv-loop μ-loop
 same-length-2 c = search needs
-
-same-length-3 : tie.Need-same-length-3 Inv-loop μ-loop
-same-length-3 c = search needs
-
-same-length-4 : tie.Need-same-length-4 Inv-loop μ-loop
-same-length-4 c = search needs
-
-same-length-5 : tie.Need-same-length-5 Inv-loop μ-loop
-same-length-5 c = search needs
-
-same-length-6 : tie.Need-same-length-6 Inv-loop μ-loop
-same-length-6 c = search needs
-
-same-length-7 : tie.Need-same-length-7 Inv-loop μ-loop
-same-length-7 c = search needs
-
-same-length-8 : tie.Need-same-length-8 Inv-loop μ-loop
-same-length-8 c = search needs
 
 returns : tie.Need-returns Inv-loop μ-loop
 returns c = rw (c .before .loop .inv .2) at (c .before .loop .inv .1)
@@ -79,10 +58,4 @@ take-all-spec =
     loop-again
     same-length
     same-length-2
-    same-length-3
-    same-length-4
-    same-length-5
-    same-length-6
-    same-length-7
-    same-length-8
     returns)

@@ -1,4 +1,4 @@
--- `session::running::answer_line` meets its contract: a good line's name fits its room. Assumes nothing.
+-- `session::running::answer_in` meets its contract: a good line's name fits its room. Assumes nothing.
 use mathlib.Core.Path.{sym, _∙_}
 use native.Mathlib.Omega.{arith}
 use Prim.Native.Nat.{_≤_}
@@ -6,8 +6,8 @@ use lib.ListN.{length}
 use lib.Seq.{length-take-le}
 use Rattle.lines.proofs.Meaning.{name-short}
 use borrow.Author.Needs.{needs}
-use Rattle.session.proofs.running.answer_line.Statement.{statement}
-use Rattle.session.proofs.running.answer_line.Tie as tie
+use Rattle.session.proofs.running.answer_in.Statement.{statement}
+use Rattle.session.proofs.running.answer_in.Tie as tie
 
 -- a good line's name fits its room
 fits : (c : tie.After-trap) → c .trap .given .0 .1 .0 ≤ length (c .before .before .before .before .before .before .read-line .last .1 .1 .0)
@@ -45,10 +45,10 @@ enum-known-trap : tie.Need-enum-known-trap
 enum-known-trap c = search needs
 
 slice-reshare-prefix-write-trap : tie.Need-slice-reshare-prefix-write-trap
-slice-reshare-prefix-write-trap c = fits (c .before .before)
+slice-reshare-prefix-write-trap c = fits (c .before .before .before)
 
 slice-aggregate-write-trap : tie.Need-slice-aggregate-write-trap
-slice-aggregate-write-trap c = sym (length-take-le _ _ (fits (c .before .before .before)))
+slice-aggregate-write-trap c = sym (length-take-le _ _ (fits (c .before .before .before .before)))
 
 write-trap-requires : tie.Need-write-trap-requires
 write-trap-requires c κs = search needs
@@ -110,8 +110,8 @@ same-length-15 c = search needs
 returns-4 : tie.Need-returns-4
 returns-4 c = search needs
 
-pub answer-line-spec : {M : Type 1} → statement M
-answer-line-spec =
+pub answer-in-spec : {M : Type 1} → statement M
+answer-in-spec =
     tie.close
     (tie.spec
     with-room-requires

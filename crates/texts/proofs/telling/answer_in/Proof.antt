@@ -1,11 +1,11 @@
--- `texts::telling::answer_error` meets its contract: the texts fit the rooms, so that they lie in them. Assumes nothing.
+-- `texts::telling::answer_in` meets its contract: the texts fit the rooms, so that they lie in them. Assumes nothing.
 use native.Mathlib.Omega.{arith}
 use Prim.Native.Nat.{_≤_}
 use lib.ListN.{length}
 use Rattle.texts.proofs.Parts.{counted, texts-fit}
 use borrow.Author.Needs.{needs}
-use Rattle.texts.proofs.telling.answer_error.Statement.{statement}
-use Rattle.texts.proofs.telling.answer_error.Tie as tie
+use Rattle.texts.proofs.telling.answer_in.Statement.{statement}
+use Rattle.texts.proofs.telling.answer_in.Tie as tie
 
 fit : (c : tie.After-key) →
     (c .key .given .0 .1 .0 ≤ length (c .before .before .before .before .before .before .read-asked .last .1 .0))
@@ -66,8 +66,8 @@ same-length-6 c = search needs
 returns-2 : tie.Need-returns-2
 returns-2 c = search needs
 
-pub answer-error-spec : {M : Type 1} → statement M
-answer-error-spec =
+pub answer-in-spec : {M : Type 1} → statement M
+answer-in-spec =
     tie.close
     (tie.spec
     read-asked-requires

@@ -1,0 +1,23 @@
+ghost use mathlib.Core.Path.{_≡_};
+ghost use lib.ListN.{length};
+
+// Room for a line: one character more than a trial may have.
+pub fn line_room() -> [u8; 300001]
+    ensures { λ r. ⌜ 300001 ≡ length r ⌝ }
+{
+    [0; 300001]
+}
+
+// Room for a picture.
+pub fn picture_room() -> [u32; 16384]
+    ensures { λ r. ⌜ 16384 ≡ length r ⌝ }
+{
+    [0; 16384]
+}
+
+// Room for registers: twice as many as a call takes.
+pub fn registers_room() -> [u32; 16]
+    ensures { λ r. ⌜ 16 ≡ length r ⌝ }
+{
+    [0; 16]
+}
