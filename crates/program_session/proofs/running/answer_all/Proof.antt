@@ -1,0 +1,88 @@
+-- `program_session::running::answer_all` meets its contract: the rooms keep their lengths and the line stays within its own; the measure is the turns that are left. Assumes nothing.
+use mathlib.Core.Path.{_≡_, refl, _∙_}
+use Prim.Native.Nat.{_≤_, _-_}
+use lib.ListN.{length}
+use borrow.Author.Needs.{needs}
+use native.Mathlib.Omega.{arith}
+use Rattle.program_session.proofs.running.answer_all.Statement.{statement}
+use Rattle.program_session.proofs.running.answer_all.Tie as tie
+
+abbrev Inv-loop : tie.InvT-loop
+Inv-loop p₀ chunk₀ line₀ out₀ progress₀ turns₀ p chunk line out progress turns =
+    (progress .length ≤ length line) × (length p ≡ length p₀) × (length chunk ≡ length chunk₀) × (length line ≡ length line₀) × (length out ≡ length out₀)
+
+abbrev μ-loop : tie.MeasureT-loop
+μ-loop p₀ chunk₀ line₀ out₀ progress₀ turns₀ p chunk line out progress turns = turns
+
+loop-holds : tie.Need-loop-holds Inv-loop μ-loop
+loop-holds c = (omega arith, refl, refl, refl, refl)
+
+read-requires : tie.Need-read-requires Inv-loop μ-loop
+read-requires c κs = search needs
+
+count-requires : tie.Need-count-requires Inv-loop μ-loop
+count-requires c κs = search needs
+
+slice-reshare-prefix-take-all : tie.Need-slice-reshare-prefix-take-all Inv-loop μ-loop
+slice-reshare-prefix-take-all c = search needs
+
+slice-aggregate-take-all : tie.Need-slice-aggregate-take-all Inv-loop μ-loop
+slice-aggregate-take-all c = search needs
+
+take-all-requires : tie.Need-take-all-requires Inv-loop μ-loop
+take-all-requires c κs = c .before .before .before .before .before .before .before .before .before .before .before .loop .inv .0
+
+turns-after-requires : tie.Need-turns-after-requires Inv-loop μ-loop
+turns-after-requires c κs = search needs
+
+loop-less : tie.Need-loop-less Inv-loop μ-loop
+loop-less c = search needs
+
+loop-again : tie.Need-loop-again Inv-loop μ-loop
+loop-again c =
+    let e = c .before .before .before .before .before .before .before in
+    let f = e .before .before .before .before .before .before .before .before .before in
+    let d = f .before .before .before .loop in
+    let t = e .take-all in
+    let k = t .kept .1 .1 .1 in
+    (rw (k .0) (t .ensures), t .kept .0 ∙ d .inv .1, f .read .kept .1 .0 ∙ d .inv .2, k .0 ∙ d .inv .3, k .1 .0 ∙ d .inv .4)
+
+finish-requires : tie.Need-finish-requires Inv-loop μ-loop
+finish-requires c κs = c .before .before .before .before .loop .inv .0
+
+same-length : tie.Need-same-length Inv-loop μ-loop
+same-length c = search needs
+
+same-length-2 : tie.Need-same-length-2 Inv-loop μ-loop
+same-length-2 c = search needs
+
+same-length-3 : tie.Need-same-length-3 Inv-loop μ-loop
+same-length-3 c = search needs
+
+same-length-4 : tie.Need-same-length-4 Inv-loop μ-loop
+same-length-4 c = search needs
+
+returns : tie.Need-returns Inv-loop μ-loop
+returns c = tt
+
+pub answer-all-spec : {M : Type 1} → statement M
+answer-all-spec =
+    tie.close
+    (tie.spec
+    Inv-loop
+    μ-loop
+    loop-holds
+    read-requires
+    count-requires
+    slice-reshare-prefix-take-all
+    slice-aggregate-take-all
+    take-all-requires
+    turns-after-requires
+    loop-less
+    loop-again
+    finish-requires
+    same-length
+    same-length-2
+    same-length-3
+    same-length-4
+    returns)

@@ -1,0 +1,50 @@
+-- `program_trial::running::take` meets its contract: the line's length stays within its room. Assumes nothing.
+use Rattle.writing.proofs.Writer.{past-inside}
+use Rattle.program_trial.proofs.Parts.{counted}
+use borrow.Author.Needs.{needs}
+use Rattle.program_trial.proofs.running.take.Statement.{statement}
+use Rattle.program_trial.proofs.running.take.Tie as tie
+
+slice-reshare-prefix-answer-line : tie.Need-slice-reshare-prefix-answer-line
+slice-reshare-prefix-answer-line c = search needs
+
+slice-aggregate-answer-line : tie.Need-slice-aggregate-answer-line
+slice-aggregate-answer-line c = let s = c .before .before .before .before in counted (s .args .progress .length) (s .args .line .now) (s .pre)
+
+answer-line-requires : tie.Need-answer-line-requires
+answer-line-requires c κs = search needs
+
+same-length : tie.Need-same-length
+same-length c = search needs
+
+same-length-2 : tie.Need-same-length-2
+same-length-2 c = search needs
+
+returns : tie.Need-returns
+returns c = search needs
+
+write-character-requires : tie.Need-write-character-requires
+write-character-requires c κs = search needs
+
+same-length-3 : tie.Need-same-length-3
+same-length-3 c = search needs
+
+returns-2 : tie.Need-returns-2
+returns-2 c =
+    let w = c .before .before in
+    let s = w .before .before .before .before .before in
+    rw (w .write-character .ensures .0) (past-inside (s .args .line .now) (s .args .progress .length) 1 (s .pre))
+
+pub take-spec : {M : Type 1} → statement M
+take-spec =
+    tie.close
+    (tie.spec
+    slice-reshare-prefix-answer-line
+    slice-aggregate-answer-line
+    answer-line-requires
+    same-length
+    same-length-2
+    returns
+    write-character-requires
+    same-length-3
+    returns-2)

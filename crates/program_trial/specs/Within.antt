@@ -1,0 +1,16 @@
+-- How much a trial may have: no more than the rooms that are lent.
+use Prim.Native.Nat.{ℕ, _≤_}
+use Rattle.program_trial.specs.declared.Count.{Count}
+use Rattle.program_trial.specs.declared.Count.the-variants.{Of, Bad}
+use Rattle.program_trial.specs.declared.Trial.{Trial}
+use Rattle.program_trial.specs.declared.Trial.the-variants.{Good, Bad as BadTrial}
+
+-- a count is at most `most`
+abbrev pub Within : Count → ℕ → Type 0
+Within (Of n) most = n ≤ most
+Within Bad most = Unit {0}
+
+-- a trial's name, registers and picture fit
+abbrev pub Fitting : Trial → ℕ → ℕ → ℕ → Type 0
+Fitting (Good call characters count size) name registers picture = (characters ≤ name) × (count ≤ registers) × (size ≤ picture)
+Fitting BadTrial name registers picture = Unit {0}
