@@ -2,13 +2,14 @@
 -- D3 $FF000000 if suspended, plus priority; A0 first byte of room, 0 for job 0; A1 0."
 use Prim.Native.Nat.{ℕ, _+_}
 use mathlib.Core.Bool.{cond}
-use mathlib.Core.List.{List}
+use mathlib.Core.List.{List, [], _∷_}
 use lib.Dec.{eqb}
 use Rattle.picture.specs.Records.{number, owner, base, priority, timeout}
-use Rattle.picture.specs.Numbers.{tag, position, live}
+use Rattle.picture.specs.Numbers.{tag, position, job-at}
 use Rattle.picture.specs.Keys.{invalid-job}
 use Rattle.picture.specs.declared.Table.the-variants.{Jobs}
-use Rattle.calls.specs.Outcome.{Outcome, refuse, succeed}
+use Rattle.calls.specs.Call.{Call}
+use Rattle.calls.specs.Found.{job-check}
 use Rattle.calls.specs.Registers.{D1, D2, with-D1, with-D2, with-D3, with-A0, with-A1, meant}
 use Rattle.tree.specs.Tree.{in-tree, tree}
 use Rattle.asking.specs.Next.{next-member}
@@ -31,12 +32,12 @@ room p k = cond (eqb k 0) 0 (base p Jobs k + header-bytes)
 unfoldable pub answered : List ℕ → List ℕ → ℕ → ℕ → List ℕ
 answered p d t k = with-A1 0 (with-A0 (room p k) (with-D3 (standing p k) (with-D2 (owner p Jobs k) (with-D1 (next-member p (tree p t) (tag (number p Jobs k))) d))))
 
-unfoldable pub ask : List ℕ → List ℕ → Outcome
-ask p d =
-    cond (live p Jobs (D2 d))
-    (cond (live p Jobs (meant p (D1 d)))
-    (cond (in-tree p (position (D2 d)) (position (meant p (D1 d))))
-    (succeed p (answered p d (position (D2 d)) (position (meant p (D1 d)))))
-    (refuse invalid-job p d))
-    (refuse invalid-job p d))
-    (refuse invalid-job p d)
+unfoldable pub ask : Call
+ask p d = record {
+  checks =
+      job-check (job-at p (D2 d)) ∷
+      job-check (job-at p (meant p (D1 d))) ∷
+      (in-tree p (position (D2 d)) (position (meant p (D1 d))), invalid-job) ∷ [];
+  picture = p;
+  registers = answered p d (position (D2 d)) (position (meant p (D1 d)));
+}

@@ -17,6 +17,7 @@ ghost use Rattle.picture.specs.declared.Table.the-variants.{Jobs};
 ghost use Rattle.picture.specs.Layout.{greatest-priority as greatestPriority};
 ghost use Rattle.sound.specs.Sound.{sound};
 ghost use Rattle.calls.specs.Outcome.{Meets};
+ghost use Rattle.calls.specs.Call.{outcome};
 ghost use Rattle.asking.specs.Next.{nearer, next-below as nextBelow, next-member as nextMember};
 ghost use Rattle.asking.specs.Ask.{standing, room, answered, ask};
 
@@ -87,7 +88,7 @@ fn answer(p: &[u32], d: &mut [u32], t: usize, k: usize)
 // Trap 1 $2: the job that D1 means, in the tree of the job D2.
 pub fn ask(p: &mut [u32], d: &mut [u32]) -> i32
     requires { ⌜ sound (now p) ≡ true ⌝ }
-    ensures { λ r. ⌜ Meets (ask (now (p .entry)) (now (d .entry))) r (now (p .exit)) (now (d .exit)) ⌝ }
+    ensures { λ r. ⌜ Meets (outcome ask (now (p .entry)) (now (d .entry))) r (now (p .exit)) (now (d .exit)) ⌝ }
 {
     let JobFound::At(t) = job_at(p, JobNumber(word(d, calls::D2))) else {
         return picture::INVALID_JOB;

@@ -8,7 +8,7 @@ use Rattle.words.specs.Words.{clear}
 use Rattle.words.specs.Bits.{lowest-clear}
 use Rattle.picture.specs.Keys.{done, out-of-memory, bad-name, bad-parameter}
 use Rattle.picture.specs.Records.{used, ready}
-use Rattle.picture.specs.Numbers.{live, free-position}
+use Rattle.picture.specs.Numbers.{live, job-at, free-position}
 use Rattle.blocks.specs.Walk.{good, next, starts, starts-within}
 use Rattle.matching.specs.Match.{claims, pair, claimed, own, housed}
 use Rattle.records.specs.Rules.{zero-base, priority-within, accumulated-within, timeout-within, ends-in-one, blank, positioned, zero-exists, tag-within, tags-differ, tag-once, owner-live, owner-older, zero-unowned, tag-given, waits-well, idle-zero}
@@ -16,15 +16,15 @@ use Rattle.areas.specs.Rules.{length-whole, kind-known, start-zero, free-blank,
 use Rattle.sound.specs.Whole.{size-right, zero-right, heap-right, last-within, current-ready}
 use Rattle.sound.specs.Sound.{sound}
 use Rattle.headers.specs.Header.{header}
-use Rattle.placing.specs.Place.{fits, chosen, split, placed, longer, longest}
+use Rattle.placing.specs.Place.{fits, chosen, split, placed, answer, longer, longest}
 use Rattle.fresh.specs.Fresh.{fresh}
 use Rattle.masks.specs.Masks.{with-bit}
-use Rattle.rooms.specs.Room.{has-room}
 use Rattle.calls.specs.Outcome.{Outcome}
+use Rattle.calls.specs.Call.{outcome}
 use Rattle.calls.specs.Registers.{D1, A0, meant}
 use Rattle.memory.specs.Memory.{longest-room, length-good, room-registers, taken, take}
 use Rattle.entering.specs.Entry.{has-position, has-tag, recorded, counted, entered}
-use Rattle.creating.specs.Create.{owner-good, owner-chosen, created, job-registers, create}
+use Rattle.creating.specs.Create.{owner-found, created, job-registers, create}
 use Rattle.effects.specs.Effects.{naming, prioritized}
 use Rattle.jobs.specs.Calls.{set-priority}
 use Rattle.opening.specs.Calls.{open-channel}
@@ -36,18 +36,18 @@ use Rattle.names.specs.Names.{good as good-name, named as name-read}
 
 -- a call, and the key, D1 and A0 that it answers
 record Case : Type 0 where
-  outcome : Outcome
+  comes-to : Outcome
   key : ℤ
   in-D1 : ℕ
   in-A0 : ℕ
 
 abbrev case : Outcome → ℤ → ℕ → ℕ → Case
-case o k x a = record { outcome = o; key = k; in-D1 = x; in-A0 = a }
+case o k x a = record { comes-to = o; key = k; in-D1 = x; in-A0 = a }
 
 -- every call of a list answers so
 abbrev Answered : List Case → Type 0
 Answered [] = Unit {0}
-Answered (c ∷ l) = ((c .outcome .key ≡ c .key) × ((D1 (c .outcome .registers) ≡ c .in-D1) × (A0 (c .outcome .registers) ≡ c .in-A0))) × Answered l
+Answered (c ∷ l) = ((c .comes-to .key ≡ c .key) × ((D1 (c .comes-to .registers) ≡ c .in-D1) × (A0 (c .comes-to .registers) ≡ c .in-A0))) × Answered l
 
 -- "The picture starts fresh, N 1,024, H 256"
 abbrev start : List ℕ
@@ -59,19 +59,19 @@ asks code x y z = code ∷ x ∷ y ∷ z ∷ 0 ∷ 0 ∷ 0 ∷ 0 ∷ []
 
 -- $18 with n bytes for job 0, after the calls that led to p
 abbrev taking : ℕ → List ℕ → Outcome
-taking n p = called 1 p (asks 24 n 0 0) []
+taking n p = called 1 p (asks 0x18 n 0 0) []
 
 -- $1 with c bytes of code and n of data
 abbrev creating : ℕ → ℕ → Outcome
-creating c n = called 1 start (asks 1 0 c n) []
+creating c n = called 1 start (asks 0x1 0 c n) []
 
 -- $B with this priority for job 0
 abbrev prioritizing : ℕ → Outcome
-prioritizing u = called 1 start (asks 11 0 u 0) []
+prioritizing u = called 1 start (asks 0xB 0 u 0) []
 
 -- trap 2 $1 for job 0, with the name PIPE_3276 and one digit more
 abbrev opening : ℕ → Outcome
-opening digit = called 2 start (asks 1 0 0 0) (80 ∷ 73 ∷ 80 ∷ 69 ∷ 95 ∷ 51 ∷ 50 ∷ 55 ∷ 54 ∷ digit ∷ [])
+opening digit = called 2 start (asks 0x1 0 0 0) (80 ∷ 73 ∷ 80 ∷ 69 ∷ 95 ∷ 51 ∷ 50 ∷ 55 ∷ 54 ∷ digit ∷ [])
 
 -- the pictures after the first take, and after the second
 abbrev taken-100 : List ℕ
@@ -91,7 +91,7 @@ cases =
     -- "Instead 849: -3."
     case (taking 849 taken-101) out-of-memory 849 0 ∷
     -- "$6 answers 1,488."
-    case (called 1 start (asks 6 0 0 0) []) done 1488 0 ∷
+    case (called 1 start (asks 0x6 0 0 0) []) done 1488 0 ∷
     -- "Create with 1,428 and 60: accepted, number $00010001, A0 2,608."
     case (creating 1428 60) done 65537 2608 ∷
     -- "With 1,429: -3."
@@ -107,7 +107,7 @@ cases =
 
 -- "Positions 0, 1, 2 ready at 32, 64, 127, all accumulated 0: picks 0, 2, 1, 2, 0, 1, 2, 0."
 pub table : Answered cases × DeskBench
-unfolding fresh clear lowest-clear used ready live free-position good next starts-within starts claims pair claimed own housed zero-base priority-within accumulated-within timeout-within ends-in-one blank positioned zero-exists tag-within tags-differ tag-once owner-live owner-older zero-unowned tag-given waits-well idle-zero length-whole kind-known start-zero free-blank queue-room tiles untouched kind-fits holder-live size-right zero-right heap-right last-within current-ready sound header fits chosen split placed longer longest with-bit has-room meant longest-room length-good room-registers taken take has-position has-tag recorded counted entered owner-good owner-chosen created job-registers create naming prioritized set-priority open-channel trap-one trap-two named checked called key-of number-in letter pipe digit number numbered good-name name-read
+unfolding fresh clear lowest-clear used ready live free-position good next starts-within starts claims pair claimed own housed zero-base priority-within accumulated-within timeout-within ends-in-one blank positioned zero-exists tag-within tags-differ tag-once owner-live owner-older zero-unowned tag-given waits-well idle-zero length-whole kind-known start-zero free-blank queue-room tiles untouched kind-fits holder-live size-right zero-right heap-right last-within current-ready sound header fits chosen split placed longer longest with-bit job-at answer meant longest-room length-good room-registers taken take has-position has-tag recorded counted entered owner-found created job-registers create naming prioritized set-priority open-channel trap-one trap-two named checked called key-of number-in letter pipe digit number numbered good-name name-read outcome
 table = (
   ((refl, (refl, refl)), ((refl, (refl, refl)), ((refl, (refl, refl)), ((refl, (refl, refl)), ((refl, (refl, refl)), ((refl, (refl, refl)), ((refl, (refl, refl)), ((refl, (refl, refl)), ((refl, (refl, refl)), ((refl, (refl, refl)), ((refl, (refl, refl)), ((refl, (refl, refl)), tt)))))))))))),
   desk-bench,

@@ -1,2 +1,4 @@
 -- Laws of the definitions of specs/.
 pub mod Outcome
+pub mod Call
+pub mod Found

@@ -1,4 +1,6 @@
 -- The definitions that the contracts cite.
 pub mod Outcome
+pub mod Call
+pub mod Found
 pub mod Registers
 pub mod Writes

@@ -11,8 +11,9 @@ use Rattle.picture.specs.Keys.{done, not-found, bad-name, bad-parameter}
 use Rattle.names.specs.Names.{key-of, good, byte, pipe, worth, number, numbered, named}
 use Rattle.names.specs.declared.Name.{Name}
 use Rattle.names.specs.declared.Name.the-variants.{Pipe, Foreign, Unnumbered, Bare}
-use Rattle.causes.specs.Causes.{verdict, name-checks, NameKeyOnlyForItsCause, GoodNameExactly}
-use Rattle.causes.proofs.Causes.{cause-of, verdict-of}
+use Rattle.calls.specs.Call.{verdict}
+use Rattle.calls.proofs.Call.{cause-of, verdict-of}
+use Rattle.causes.specs.Causes.{name-checks, NameKeyOnlyForItsCause, GoodNameExactly}
 
 -- the key of a name is the verdict of its checks
 pub name-key : (s : List ℕ) → key-of (named s) ≡ verdict (name-checks s)

@@ -1,6 +1,6 @@
 -- What looking up a channel's number tells, and the queue of a channel that is live.
 use Prim.Native.Nat.{ℕ, _+_, _*_, _/_, _≤_, _<_}
-use mathlib.Core.Path.{_≡_, refl, sym, ap, _∙_, subst}
+use mathlib.Core.Path.{_≡_, refl, subst}
 use mathlib.Core.Bool.{Bool, true, false, _&&_, cond}
 use mathlib.Core.List.{List}
 use lib.ListN.{length}
@@ -34,12 +34,9 @@ at-case : (t : Bool) (x k : ℕ) → cond t (At x) Dead ≡ At k → (t ≡ true
 at-case true x k h = (refl, cc)
 at-case false x k h = absurd (let z : _≡_ {A = ℕ} 0 1 = cc in omega arith)
 
-dead-case : (t : Bool) (x : ℕ) → cond t (At x) Dead ≡ Dead → t ≡ false
-dead-case true x h = absurd (let z : _≡_ {A = ℕ} 0 1 = cc in omega arith)
-dead-case false x h = refl
-
 -- the channel that a number names
 pub record Named (p : List ℕ) (n k : ℕ) : Type 0 where
+  pub finds : channel-at p n ≡ At k
   pub lives : live p Channels n ≡ true
   pub place : position n ≡ k
   pub below : k < 32
@@ -51,11 +48,7 @@ pub channel-found : (p : List ℕ) (n k : ℕ) → channel-at p n ≡ At k → N
 unfolding channel-at
 channel-found p n k h =
     let r = at-case (live p Channels n) (position n) k h in
-    record { lives = r .0; place = r .1; below = subst (λ (x : ℕ). x < 32) (r .1) (live-below p n (r .0)) }
-
-pub channel-dead : (p : List ℕ) (n : ℕ) → channel-at p n ≡ Dead → live p Channels n ≡ false
-unfolding channel-at
-channel-dead p n h = dead-case (live p Channels n) (position n) h
+    record { finds = h; lives = r .0; place = r .1; below = subst (λ (x : ℕ). x < 32) (r .1) (live-below p n (r .0)) }
 
 -- the queue at i is that of the channel at position k
 pub record Held (p : List ℕ) (k i : ℕ) : Type 0 where

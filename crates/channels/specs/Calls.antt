@@ -1,11 +1,11 @@
 -- Document 01: trap 2 $2, trap 3 $0, $1 and $5.
 use Prim.Native.Nat.{ℕ, _%_}
-use mathlib.Core.Bool.{cond}
-use mathlib.Core.List.{List}
-use Rattle.picture.specs.Keys.{not-complete, channel-not-open, bad-parameter}
-use Rattle.picture.specs.Numbers.{position, live}
-use Rattle.picture.specs.declared.Table.the-variants.{Channels}
-use Rattle.calls.specs.Outcome.{Outcome, refuse, succeed}
+use mathlib.Core.Bool.{not}
+use mathlib.Core.List.{List, [], _∷_}
+use Rattle.picture.specs.Keys.{not-complete, bad-parameter}
+use Rattle.picture.specs.Numbers.{position, channel-at}
+use Rattle.calls.specs.Call.{Check, Call}
+use Rattle.calls.specs.Found.{channel-check}
 use Rattle.calls.specs.Registers.{D1, A0, with-D1}
 use Rattle.queues.specs.Ring.{waits, full, oldest-byte, fetched, sent}
 use Rattle.channels.specs.Effects.{queue-of, closed, immediate}
@@ -15,38 +15,40 @@ abbrev pub queue-named : List ℕ → List ℕ → ℕ
 queue-named p d = queue-of p (position (A0 d))
 
 -- "Trap 2 $2: channel A0; its block is freed."
-unfoldable pub close-channel : List ℕ → List ℕ → Outcome
-close-channel p d =
-    cond (live p Channels (A0 d))
-    (succeed (closed p (position (A0 d))) d)
-    (refuse channel-not-open p d)
+unfoldable pub close-channel : Call
+close-channel p d = record {
+  checks = channel-check (channel-at p (A0 d)) ∷ [];
+  picture = closed p (position (A0 d));
+  registers = d;
+}
 
--- "Trap 3: channel A0; D3's low word 0 (else -15)": o is what the call comes to then
-abbrev pub at-channel : List ℕ → List ℕ → Outcome → Outcome
-at-channel p d o =
-    cond (live p Channels (A0 d))
-    (cond (immediate d)
-    o
-    (refuse bad-parameter p d))
-    (refuse channel-not-open p d)
+-- "Trap 3: channel A0; D3's low word 0 (else -15)", and then the check of the queue
+abbrev pub at-channel : List ℕ → List ℕ → Check → List Check
+at-channel p d c =
+    channel-check (channel-at p (A0 d)) ∷
+    (immediate d, bad-parameter) ∷
+    c ∷ []
 
 -- "$0 asks whether a byte waits"
-unfoldable pub pending : List ℕ → List ℕ → Outcome
-pending p d = at-channel p d
-    (cond (waits p (queue-named p d))
-    (succeed p d)
-    (refuse not-complete p d))
+unfoldable pub pending : Call
+pending p d = record {
+  checks = at-channel p d (waits p (queue-named p d), not-complete);
+  picture = p;
+  registers = d;
+}
 
 -- "$1 takes the oldest into D1 (upper bits 0)"
-unfoldable pub fetch : List ℕ → List ℕ → Outcome
-fetch p d = at-channel p d
-    (cond (waits p (queue-named p d))
-    (succeed (fetched p (queue-named p d)) (with-D1 (oldest-byte p (queue-named p d)) d))
-    (refuse not-complete p d))
+unfoldable pub fetch : Call
+fetch p d = record {
+  checks = at-channel p d (waits p (queue-named p d), not-complete);
+  picture = fetched p (queue-named p d);
+  registers = with-D1 (oldest-byte p (queue-named p d)) d;
+}
 
 -- "$5 writes D1's low byte behind the newest"
-unfoldable pub send : List ℕ → List ℕ → Outcome
-send p d = at-channel p d
-    (cond (full p (queue-named p d))
-    (refuse not-complete p d)
-    (succeed (sent p (queue-named p d) (D1 d % 256)) d))
+unfoldable pub send : Call
+send p d = record {
+  checks = at-channel p d (not (full p (queue-named p d)), not-complete);
+  picture = sent p (queue-named p d) (D1 d % 256);
+  registers = d;
+}

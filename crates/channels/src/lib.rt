@@ -14,6 +14,7 @@ ghost use Rattle.picture.specs.Numbers.{channel-at as channelAt};
 ghost use Rattle.calls.specs.Registers.{A0};
 ghost use Rattle.sound.specs.Sound.{sound};
 ghost use Rattle.calls.specs.Outcome.{Meets};
+ghost use Rattle.calls.specs.Call.{outcome};
 ghost use Rattle.channels.specs.Effects.{queue-of as queueOf, forgotten, closed, immediate};
 ghost use Rattle.channels.specs.Calls.{close-channel as closeChannel, pending, fetch, send};
 
@@ -66,7 +67,7 @@ pub fn remove_channel(p: &mut [u32], k: usize)
 // Trap 2 $2: closes a channel.
 pub fn close_channel(p: &mut [u32], d: &mut [u32]) -> i32
     requires { ⌜ sound (now p) ≡ true ⌝ }
-    ensures { λ r. ⌜ Meets (closeChannel (now (p .entry)) (now (d .entry))) r (now (p .exit)) (now (d .exit)) ⌝ }
+    ensures { λ r. ⌜ Meets (outcome closeChannel (now (p .entry)) (now (d .entry))) r (now (p .exit)) (now (d .exit)) ⌝ }
 {
     let ChannelFound::At(k) = channel_named(p, d) else {
         return picture::CHANNEL_NOT_OPEN;
@@ -77,7 +78,7 @@ pub fn close_channel(p: &mut [u32], d: &mut [u32]) -> i32
 
 // Trap 3 $0: asks whether a byte waits.
 pub fn pending(p: &mut [u32], d: &mut [u32]) -> i32
-    ensures { λ r. ⌜ Meets (pending (now (p .entry)) (now (d .entry))) r (now (p .exit)) (now (d .exit)) ⌝ }
+    ensures { λ r. ⌜ Meets (outcome pending (now (p .entry)) (now (d .entry))) r (now (p .exit)) (now (d .exit)) ⌝ }
 {
     let ChannelFound::At(k) = channel_named(p, d) else {
         return picture::CHANNEL_NOT_OPEN;
@@ -94,7 +95,7 @@ pub fn pending(p: &mut [u32], d: &mut [u32]) -> i32
 // Trap 3 $1: takes the oldest byte into D1.
 pub fn fetch(p: &mut [u32], d: &mut [u32]) -> i32
     requires { ⌜ sound (now p) ≡ true ⌝ }
-    ensures { λ r. ⌜ Meets (fetch (now (p .entry)) (now (d .entry))) r (now (p .exit)) (now (d .exit)) ⌝ }
+    ensures { λ r. ⌜ Meets (outcome fetch (now (p .entry)) (now (d .entry))) r (now (p .exit)) (now (d .exit)) ⌝ }
 {
     let ChannelFound::At(k) = channel_named(p, d) else {
         return picture::CHANNEL_NOT_OPEN;
@@ -114,7 +115,7 @@ pub fn fetch(p: &mut [u32], d: &mut [u32]) -> i32
 // Trap 3 $5: writes D1's low byte behind the newest.
 pub fn send(p: &mut [u32], d: &mut [u32]) -> i32
     requires { ⌜ sound (now p) ≡ true ⌝ }
-    ensures { λ r. ⌜ Meets (send (now (p .entry)) (now (d .entry))) r (now (p .exit)) (now (d .exit)) ⌝ }
+    ensures { λ r. ⌜ Meets (outcome send (now (p .entry)) (now (d .entry))) r (now (p .exit)) (now (d .exit)) ⌝ }
 {
     let ChannelFound::At(k) = channel_named(p, d) else {
         return picture::CHANNEL_NOT_OPEN;

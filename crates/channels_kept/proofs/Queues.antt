@@ -17,6 +17,7 @@ use Rattle.sound.specs.Sound.{sound}
 use Rattle.facts.proofs.Sound.{Sound}
 use Rattle.facts.proofs.View.{view}
 use Rattle.calls.specs.Outcome.{Outcome}
+use Rattle.calls.specs.Call.{outcome}
 use Rattle.calls.specs.Registers.{A0}
 use Rattle.keeping.proofs.Placing.{None, Only}
 use Rattle.keeping.proofs.Intact.{Intact, change-keeps-every-other-block}
@@ -38,8 +39,8 @@ one-position p m n a b e = sym (live-is p Channels m a .names) ∙ ap (number p 
 pub intact-queue : (p q : List ℕ) (k i : ℕ) → Held p k i → Intact p q Heap i → contents q i ≡ contents p i
 intact-queue p q k i H I = contents-same p q i (H .ring) (λ w a b. let r = H .room in I .same w (omega arith) (omega arith))
 
-pub close-channel-leaves-other-queues : (p d : List ℕ) → sound p ≡ true → (m : ℕ) → live p Channels m ≡ true → (m ≡ A0 d → ⊥) → bytes-at (close-channel p d .picture) m ≡ bytes-at p m
-close-channel-leaves-other-queues p d s m a n = close-channel-ways (λ (o : Outcome). bytes-at (o .picture) m ≡ bytes-at p m) p d refl
+pub close-channel-leaves-other-queues : (p d : List ℕ) → sound p ≡ true → (m : ℕ) → live p Channels m ≡ true → (m ≡ A0 d → ⊥) → bytes-at (outcome close-channel p d .picture) m ≡ bytes-at p m
+close-channel-leaves-other-queues p d s m a n = close-channel-ways (λ (o : Outcome). bytes-at (o .picture) m ≡ bytes-at p m) p d (λ k. refl)
     (λ b.
     let H = live-queue p m s a in
     let used = ne-eqb (kind p (queue-of p (position m))) 0 (λ e. let k = H .own .sorts in omega arith) in

@@ -1,17 +1,17 @@
 -- Document 01: the call $1.
 use Prim.Native.Nat.{ℕ, _+_}
-use mathlib.Core.Bool.{Bool, _||_, cond}
-use mathlib.Core.List.{List}
+use mathlib.Core.Bool.{Bool, true, false, cond}
+use mathlib.Core.List.{List, [], _∷_}
 use lib.Dec.{leb}
 use Rattle.picture.specs.Layout.{nobody}
 use Rattle.picture.specs.Numbers.{live, free-position}
-use Rattle.picture.specs.Keys.{invalid-job, out-of-memory, bad-parameter}
+use Rattle.picture.specs.Keys.{done, invalid-job, bad-parameter}
 use Rattle.picture.specs.declared.Table.the-variants.{Jobs}
 use Rattle.picture.specs.declared.Area.the-variants.{Transient}
 use Rattle.blocks.specs.Header.{job-kind}
 use Rattle.placing.specs.Place.{placed}
-use Rattle.rooms.specs.Room.{block-length, spot, has-room, header-byte, first-byte}
-use Rattle.calls.specs.Outcome.{Outcome, refuse, succeed}
+use Rattle.rooms.specs.Room.{block-length, spot, room-at, room-check, header-byte, first-byte}
+use Rattle.calls.specs.Call.{Check, Call}
 use Rattle.calls.specs.Registers.{D1, D2, D3, A1, with-D1, with-A0, caller}
 use Rattle.entering.specs.Entry.{has-position, has-tag, next-tag, next-number, entered}
 use Rattle.creating.specs.declared.OwnerFound.{OwnerFound}
@@ -21,17 +21,19 @@ use Rattle.creating.specs.declared.OwnerFound.the-variants.{Of, Dead}
 abbrev pub negative : ℕ → Bool
 negative n = leb 2147483648 n
 
--- "no owner; otherwise D1 must be live"
-unfoldable pub owner-good : List ℕ → ℕ → Bool
-owner-good p n = negative n || live p Jobs n
-
--- "and the new job is owned by the caller"
-unfoldable pub owner-chosen : List ℕ → ℕ → ℕ
-owner-chosen p n = cond (negative n) nobody (caller p)
-
--- whose a job is that is created with n in D1
+-- "no owner; otherwise D1 must be live and the new job is owned by the caller"
 unfoldable pub owner-found : List ℕ → ℕ → OwnerFound
-owner-found p n = cond (owner-good p n) (Of (owner-chosen p n)) Dead
+owner-found p n = cond (negative n) (Of nobody) (cond (live p Jobs n) (Of (caller p)) Dead)
+
+-- "D1 must be live (-2)"
+abbrev pub owner-check : OwnerFound → Check
+owner-check (Of o) = (true, done)
+owner-check Dead = (false, invalid-job)
+
+-- the owner's number, nobody for none
+abbrev pub owner-in : OwnerFound → ℕ
+owner-in (Of o) = o
+owner-in Dead = nobody
 
 -- "D3 below 4: -15"
 abbrev pub least-data : ℕ
@@ -44,27 +46,25 @@ job-length d = block-length (D2 d + D3 d)
 -- "New job: all but number, owner and base 0; start A1"
 unfoldable pub created : List ℕ → List ℕ → List ℕ
 created p d = entered
-    (placed p (spot p Transient (job-length d)) (job-length d) job-kind (owner-chosen p (D1 d)) (A1 d))
+    (placed p (spot p Transient (job-length d)) (job-length d) job-kind (owner-in (owner-found p (D1 d))) (A1 d))
     Jobs
     (free-position p Jobs)
     (next-tag p Jobs)
-    (owner-chosen p (D1 d))
+    (owner-in (owner-found p (D1 d)))
     (header-byte (spot p Transient (job-length d)))
 
 -- "D1 number, A0 first byte of room": of the block at i
 unfoldable pub job-registers : ℕ → ℕ → List ℕ → List ℕ
 job-registers number i d = with-A0 (first-byte i) (with-D1 number d)
 
-unfoldable pub create : List ℕ → List ℕ → Outcome
-create p d =
-    cond (owner-good p (D1 d))
-    (cond (leb least-data (D3 d))
-    (cond (has-position p Jobs)
-    (cond (has-tag p Jobs)
-    (cond (has-room p Transient (job-length d))
-    (succeed (created p d) (job-registers (next-number p Jobs) (spot p Transient (job-length d)) d))
-    (refuse out-of-memory p d))
-    (refuse invalid-job p d))
-    (refuse invalid-job p d))
-    (refuse bad-parameter p d))
-    (refuse invalid-job p d)
+unfoldable pub create : Call
+create p d = record {
+  checks =
+      owner-check (owner-found p (D1 d)) ∷
+      (leb least-data (D3 d), bad-parameter) ∷
+      (has-position p Jobs, invalid-job) ∷
+      (has-tag p Jobs, invalid-job) ∷
+      room-check (room-at p Transient (job-length d)) ∷ [];
+  picture = created p d;
+  registers = job-registers (next-number p Jobs) (spot p Transient (job-length d)) d;
+}

@@ -17,6 +17,7 @@ ghost use Prim.Native.Nat.{_<_};
 ghost use Rattle.picture.specs.Layout.{greatest-size as greatestSize};
 ghost use Rattle.sound.specs.Sound.{sound};
 ghost use Rattle.calls.specs.Outcome.{Meets};
+ghost use Rattle.calls.specs.Call.{outcome};
 ghost use Rattle.creating.specs.Create.{negative, owner-found as ownerFound, job-registers as jobRegisters, create};
 
 // A job's data space has at least this many bytes.
@@ -60,7 +61,7 @@ pub fn answer_job(d: &mut [u32], number: u32, i: usize)
 // $1: creates a job.
 pub fn create(p: &mut [u32], d: &mut [u32]) -> i32
     requires { ⌜ sound (now p) ≡ true ⌝ }
-    ensures { λ r. ⌜ Meets (create (now (p .entry)) (now (d .entry))) r (now (p .exit)) (now (d .exit)) ⌝ }
+    ensures { λ r. ⌜ Meets (outcome create (now (p .entry)) (now (d .entry))) r (now (p .exit)) (now (d .exit)) ⌝ }
 {
     let OwnerFound::Of(owner) = owner_for(p, word(d, D1)) else {
         return picture::INVALID_JOB;

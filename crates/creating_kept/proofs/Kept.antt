@@ -34,6 +34,7 @@ use Rattle.facts.proofs.Same.{used-same, claims-same, Lives, EntriesSame, entri
 use Rattle.facts.proofs.Ages.{Ages, ages-still}
 use Rattle.rooms.specs.Room.{header-byte}
 use Rattle.calls.specs.Outcome.{Outcome}
+use Rattle.calls.specs.Call.{outcome}
 use Rattle.calls.specs.Registers.{A1}
 use Rattle.entering.specs.Entry.{next-tag}
 use Rattle.entering_kept.proofs.Written.{Entered}
@@ -274,8 +275,8 @@ module _ (p d : List ℕ) (h : sound p ≡ true) (c : Checked p d) where
   created-ages : (t : Table) → Ages p (created p d) t
   created-ages = entering-ages p q Jobs k (next-tag p Jobs) o (header-byte at) E there vacant (omega arith)
 
-pub create-keeps-sound : (p d : List ℕ) → sound p ≡ true → sound (create p d .picture) ≡ true
-create-keeps-sound p d h = create-ways (λ (o : Outcome). sound (o .picture) ≡ true) p d h h h (λ c. created-sound p d h c)
+pub create-keeps-sound : (p d : List ℕ) → sound p ≡ true → sound (outcome create p d .picture) ≡ true
+create-keeps-sound p d h = create-ways (λ (o : Outcome). sound (o .picture) ≡ true) p d (λ k. h) (λ c. created-sound p d h c)
 
-pub create-ages : (p d : List ℕ) → sound p ≡ true → (t : Table) → Ages p (create p d .picture) t
-create-ages p d h t = create-ways (λ (o : Outcome). Ages p (o .picture) t) p d (ages-still p t) (ages-still p t) (ages-still p t) (λ c. created-ages p d h c t)
+pub create-ages : (p d : List ℕ) → sound p ≡ true → (t : Table) → Ages p (outcome create p d .picture) t
+create-ages p d h t = create-ways (λ (o : Outcome). Ages p (o .picture) t) p d (λ k. ages-still p t) (λ c. created-ages p d h c t)

@@ -36,7 +36,8 @@ use Rattle.entering_kept.proofs.Kept.{free-position-is-free, low-other}
 use Rattle.keeping.proofs.Tables.{TablesSame}
 use Rattle.keeping.proofs.Change.{Change, from-same, upto-same, change-then}
 use Rattle.keeping.proofs.Placing.{None, Only, placed-facts, placing-keeps-the-tables, placing-is-a-change}
-use Rattle.creating.specs.Create.{negative, owner-chosen, job-length, created}
+use Rattle.creating.specs.Create.{negative, owner-found, owner-in, job-length, created}
+use Rattle.creating.specs.declared.OwnerFound.the-variants.{Of, Dead}
 use Rattle.creating_kept.proofs.Ways.{Checked}
 
 length-in-units : (n : ℕ) → block-length n % 16 ≡ 0
@@ -57,7 +58,7 @@ module _ (p d : List ℕ) (h : sound p ≡ true) (c : Checked p d) where
   place = free-position p Jobs
 
   abbrev pub owner : ℕ
-  owner = owner-chosen p (D1 d)
+  owner = owner-in (owner-found p (D1 d))
 
   abbrev pub at : ℕ
   at = spot p Transient (job-length d)
@@ -66,7 +67,7 @@ module _ (p d : List ℕ) (h : sound p ≡ true) (c : Checked p d) where
   made = created p d
 
   abbrev r : List ℕ
-  r = placed p (spot p Transient (job-length d)) (job-length d) job-kind (owner-chosen p (D1 d)) (A1 d)
+  r = placed p (spot p Transient (job-length d)) (job-length d) job-kind (owner-in (owner-found p (D1 d))) (A1 d)
 
   pub place-there : free-position p Jobs < positions Jobs
   unfolding has-position
@@ -81,12 +82,16 @@ module _ (p d : List ℕ) (h : sound p ≡ true) (c : Checked p d) where
 
   -- the owner is nobody or live
   pub owner-nobody-or-live : (owner ≡ nobody) ⊎ (live p Jobs owner ≡ true)
-  unfolding owner-chosen
-  owner-nobody-or-live = go (negative (D1 d))
+  unfolding owner-found
+  owner-nobody-or-live = go (negative (D1 d)) (live p Jobs (D1 d))
     where
-      go : (b : Bool) → (cond b nobody (caller p) ≡ nobody) ⊎ (live p Jobs (cond b nobody (caller p)) ≡ true)
-      go true = inl refl
-      go false = ⊎-elim inl (λ e. inr (e .0)) (S .current)
+      found : Bool → Bool → ℕ
+      found b c = owner-in (cond b (Of nobody) (cond c (Of (caller p)) Dead))
+
+      go : (b c : Bool) → (found b c ≡ nobody) ⊎ (live p Jobs (found b c) ≡ true)
+      go true c = inl refl
+      go false true = ⊎-elim inl (λ e. inr (e .0)) (S .current)
+      go false false = inl refl
 
   -- first the block
   pub block-facts : Placed p r (from p Transient) (upto p Transient) at (job-length d) job-kind owner (A1 d)

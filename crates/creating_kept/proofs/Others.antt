@@ -12,13 +12,14 @@ use Rattle.blocks.specs.Walk.{blocks}
 use Rattle.sound.specs.Sound.{sound}
 use Rattle.facts.proofs.Sound.{Sound}
 use Rattle.calls.specs.Outcome.{Outcome}
+use Rattle.calls.specs.Call.{outcome}
 use Rattle.keeping.proofs.Placing.{None, Only}
 use Rattle.keeping.proofs.Intact.{Intact, still-intact, change-keeps-every-other-block}
 use Rattle.creating.specs.Create.{created, create}
 use Rattle.creating_kept.proofs.Ways.{Checked, create-ways}
 use Rattle.creating_kept.proofs.Made as the
 
-pub create-keeps-every-block-in-use : (p d : List ℕ) → sound p ≡ true → (a : Area) (i : ℕ) → In i (blocks p a) → free p i ≡ false → Intact p (create p d .picture) a i
-create-keeps-every-block-in-use p d h a i m f = create-ways (λ (o : Outcome). Intact p (o .picture) a i) p d (still-intact p a i m) (still-intact p a i m) (still-intact p a i m)
+pub create-keeps-every-block-in-use : (p d : List ℕ) → sound p ≡ true → (a : Area) (i : ℕ) → In i (blocks p a) → free p i ≡ false → Intact p (outcome create p d .picture) a i
+create-keeps-every-block-in-use p d h a i m f = create-ways (λ (o : Outcome). Intact p (o .picture) a i) p d (λ k. still-intact p a i m)
     (λ (c : Checked p d). ⊎-elim (λ (g : (Transient ≡ a) × None i). absurd (g .1)) (λ k. k)
     (change-keeps-every-other-block p (created p d) Transient (Only (the.at p d h c)) None (the.made-change p d h c) (the.lies p d h c) (the.S p d h c .tiled) a i m f))

@@ -2,28 +2,29 @@
 use Prim.Native.Nat.{ℕ, zero, suc, _<_}
 use mathlib.Core.Path.{_≡_, refl, sym, ap, _∙_}
 use mathlib.Core.Bool.{Bool, true, false, _&&_, not, cond}
-use mathlib.Core.List.{List}
-use lib.IntN.{ℤ}
+use mathlib.Core.List.{List, [], _∷_, _++_}
 use lib.Dec.{eqb}
 use native.Mathlib.Omega.{arith}
-use borrow.Author.Tests.{eq-eqb, eqb-false, ne-eqb}
+use borrow.Author.Tests.{eq-eqb, eqb-false, ne-eqb, not-true}
 use Rattle.words.specs.Bits.{bit}
 use Rattle.words.specs.Each.{every}
 use Rattle.words.proofs.Tests.{both, false-true}
 use Rattle.words.proofs.Each.{every-not}
 use Rattle.picture.specs.Layout.{positions}
 use Rattle.picture.specs.Records.{used, active}
-use Rattle.picture.specs.Numbers.{position, live}
+use Rattle.picture.specs.Numbers.{live, job-at}
 use Rattle.picture.specs.Keys.{done, not-complete, invalid-job, bad-parameter}
 use Rattle.picture.specs.declared.Table.the-variants.{Jobs}
 use Rattle.picture.proofs.Records.{used-below}
 use Rattle.sound.specs.Sound.{sound}
-use Rattle.calls.specs.Outcome.{Outcome, refuse, succeed}
-use Rattle.calls.specs.Registers.{D1, D3, cleared, meant}
+use Rattle.calls.specs.Call.{Check, outcome, verdict}
+use Rattle.calls.specs.Found.{job-check}
+use Rattle.calls.specs.Registers.{D1, meant}
+use Rattle.calls.proofs.Call.{Never, key-is-the-verdict, key-from-behind, verdict-from-behind, keys-differ}
+use Rattle.calls.proofs.Found.{live-job-passes, job-that-passes-is-live, job-check-gives-no-other}
 use Rattle.tree.specs.Tree.{tree}
 use Rattle.tree.specs.Under.{Under}
 use Rattle.tree.proofs.Members.{tree-says, tree-has}
-use Rattle.ending.specs.Ended.{ended}
 use Rattle.ending.specs.Remove.{asked, at-rest, inactive, removal, remove, force-remove}
 use Rattle.ended.specs.Promise.{ActiveMember}
 use Rattle.owners.proofs.Owners.{owners-in-order}
@@ -56,24 +57,36 @@ module _ (p : List ℕ) (s : sound p ≡ true) (t : ℕ) where
   not-inactive A = every-not (at-rest p (tree p t)) (positions Jobs) (A .who) (used-below p Jobs (A .who) (A .lives))
       (rw (tree-has p (owners-in-order p s) t (A .who) (A .lives) (A .under), A .acts))
 
-pub remove-is-refused-when-a-member-is-active : (p d : List ℕ) → sound p ≡ true → live p Jobs (meant p (D1 d)) ≡ true → (asked p d ≡ 0 → ⊥) → ActiveMember p (asked p d) → remove p d .key ≡ not-complete
-unfolding remove removal
-remove-is-refused-when-a-member-is-active p d s l n A = rw (l, ne-eqb (asked p d) 0 n, not-inactive p s (asked p d) A)
+-- $4's checks before the last, and the last
+module _ (p d : List ℕ) where
+  abbrev before : List Check
+  before = job-check (job-at p (meant p (D1 d))) ∷ (not (eqb (asked p d) 0), bad-parameter) ∷ []
 
-pub a-member-is-active-when-remove-is-refused : (p d : List ℕ) → sound p ≡ true → remove p d .key ≡ not-complete → (live p Jobs (meant p (D1 d)) ≡ true) × ((asked p d ≡ 0 → ⊥) × ActiveMember p (asked p d))
-unfolding remove removal
-a-member-is-active-when-remove-is-refused p d s h = go (live p Jobs (meant p (D1 d))) (eqb (asked p d) 0) (inactive p (tree p (asked p d))) refl refl refl h
-  where
-    Result : Type 0
-    Result = (live p Jobs (meant p (D1 d)) ≡ true) × ((asked p d ≡ 0 → ⊥) × ActiveMember p (asked p d))
+  abbrev still : Check
+  still = (inactive p (tree p (asked p d)), not-complete)
 
-    go : (b z i : Bool) → live p Jobs (meant p (D1 d)) ≡ b → eqb (asked p d) 0 ≡ z → inactive p (tree p (asked p d)) ≡ i
-        → cond b (cond (not z) (cond i (succeed (ended p (asked p d) (D3 d)) (cleared d)) (refuse not-complete p d)) (refuse bad-parameter p d)) (refuse invalid-job p d) .key ≡ not-complete → Result
-    go true true i l e q h = absurd (let z : _≡_ {A = ℕ} 0 1 = cc in omega arith)
-    go true false true l e q h = absurd (let z : _≡_ {A = ℕ} 0 1 = cc in omega arith)
-    go true false false l e q h = (l, (eqb-false (asked p d) 0 e, active-member p s (asked p d) q))
-    go false z i l e q h = absurd (let z : _≡_ {A = ℕ} 0 1 = cc in omega arith)
+  remove-verdict : outcome remove p d .key ≡ verdict (before ++ (still ∷ []))
+  unfolding remove removal
+  remove-verdict = key-is-the-verdict remove p d
 
-pub removing-job-0-is-a-bad-parameter : (p d : List ℕ) → live p Jobs (meant p (D1 d)) ≡ true → asked p d ≡ 0 → (remove p d .key ≡ bad-parameter) × (force-remove p d .key ≡ bad-parameter)
-unfolding remove force-remove removal
-removing-job-0-is-a-bad-parameter p d l z = (rw (l, eq-eqb (asked p d) 0 z), rw (l, eq-eqb (asked p d) 0 z))
+  never-before : Never not-complete before
+  never-before = (job-check-gives-no-other not-complete (job-at p (meant p (D1 d))) (keys-differ invalid-job not-complete (λ e. omega arith)), ((λ _. keys-differ bad-parameter not-complete (λ e. omega arith)), tt))
+
+  pub remove-is-refused-when-a-member-is-active : sound p ≡ true → live p Jobs (meant p (D1 d)) ≡ true → (asked p d ≡ 0 → ⊥) → ActiveMember p (asked p d) → outcome remove p d .key ≡ not-complete
+  remove-is-refused-when-a-member-is-active s l n A =
+      remove-verdict
+      ∙ verdict-from-behind before (still ∷ []) (ap (λ (x : Check). x .0) (live-job-passes p (meant p (D1 d)) l), (ap not (ne-eqb (asked p d) 0 n), tt))
+      ∙ ap (λ (b : Bool). cond b done not-complete) (not-inactive p s (asked p d) A)
+
+  pub a-member-is-active-when-remove-is-refused : sound p ≡ true → outcome remove p d .key ≡ not-complete → (live p Jobs (meant p (D1 d)) ≡ true) × ((asked p d ≡ 0 → ⊥) × ActiveMember p (asked p d))
+  a-member-is-active-when-remove-is-refused s h =
+      let r = key-from-behind not-complete before (still ∷ []) never-before (sym remove-verdict ∙ h) in
+      (job-that-passes-is-live p (meant p (D1 d)) (r .0 .0), (eqb-false (asked p d) 0 (not-true _ (r .0 .1 .0)), active-member p s (asked p d) (stirs (inactive p (tree p (asked p d))) (r .1))))
+    where
+      stirs : (b : Bool) → cond b done not-complete ≡ not-complete → b ≡ false
+      stirs true e = absurd (keys-differ done not-complete (λ z. omega arith) e)
+      stirs false e = refl
+
+  pub removing-job-0-is-a-bad-parameter : live p Jobs (meant p (D1 d)) ≡ true → asked p d ≡ 0 → (outcome remove p d .key ≡ bad-parameter) × (outcome force-remove p d .key ≡ bad-parameter)
+  unfolding remove force-remove removal outcome
+  removing-job-0-is-a-bad-parameter l z = (rw (live-job-passes p (meant p (D1 d)) l, eq-eqb (asked p d) 0 z), rw (live-job-passes p (meant p (D1 d)) l, eq-eqb (asked p d) 0 z))

@@ -1,23 +1,22 @@
 -- The ways out of $4 and $5, as the code takes them.
-use Prim.Native.Nat.{ℕ, _≤_, _<_}
-use mathlib.Core.Path.{_≡_, refl, sym, ap, _∙_}
-use mathlib.Core.Bool.{Bool, true, false, not, cond}
+use Prim.Native.Nat.{ℕ, _≤_}
+use mathlib.Core.Path.{_≡_}
+use mathlib.Core.Bool.{true, false}
 use mathlib.Core.List.{List}
-use lib.Dec.{eqb}
 use native.Mathlib.Omega.{arith}
 use borrow.Author.Tests.{eq-eqb, ne-eqb}
 use Rattle.picture.specs.Layout.{greatest-size, upto}
-use Rattle.picture.specs.Numbers.{position, live, job-at}
+use Rattle.picture.specs.Numbers.{job-at}
 use Rattle.picture.specs.Keys.{not-complete, invalid-job, bad-parameter}
-use Rattle.picture.specs.declared.Table.the-variants.{Jobs}
 use Rattle.picture.specs.declared.Area.the-variants.{Heap, Transient}
 use Rattle.picture.specs.declared.JobFound.the-variants.{At, Dead}
 use Rattle.sound.specs.Sound.{sound}
 use Rattle.facts.proofs.View.{view}
-use Rattle.calls.specs.Outcome.{Outcome, refuse, succeed}
+use Rattle.calls.specs.Outcome.{refuse, succeed}
+use Rattle.calls.specs.Call.{outcome}
 use Rattle.calls.specs.Registers.{D1, D3, cleared, meant}
 use Rattle.tree.specs.Tree.{tree}
-use Rattle.tree.proofs.Found.{job-found, job-dead}
+use Rattle.tree.proofs.Found.{job-found}
 use Rattle.ending.specs.Ended.{ended}
 use Rattle.ending.specs.Remove.{inactive, removal, remove, force-remove}
 
@@ -26,31 +25,31 @@ pub areas-within : (p : List ℕ) → sound p ≡ true → (upto p Heap ≤ grea
 areas-within p s = let z = view p s .sizes in let l = z .long in let m = z .most in let h = z .heap-most in (omega arith, omega arith)
 
 module _ (p d : List ℕ) where
-  pub remove-no-job : job-at p (meant p (D1 d)) ≡ Dead → remove p d ≡ refuse invalid-job p d
-  unfolding remove removal
-  remove-no-job a = rw (job-dead p (meant p (D1 d)) a)
+  pub remove-no-job : job-at p (meant p (D1 d)) ≡ Dead → outcome remove p d ≡ refuse invalid-job p d
+  unfolding remove removal outcome
+  remove-no-job a = rw a
 
-  pub force-remove-no-job : job-at p (meant p (D1 d)) ≡ Dead → force-remove p d ≡ refuse invalid-job p d
-  unfolding force-remove removal
-  force-remove-no-job a = rw (job-dead p (meant p (D1 d)) a)
+  pub force-remove-no-job : job-at p (meant p (D1 d)) ≡ Dead → outcome force-remove p d ≡ refuse invalid-job p d
+  unfolding force-remove removal outcome
+  force-remove-no-job a = rw a
 
   module _ (t : ℕ) (a : job-at p (meant p (D1 d)) ≡ At t) where
-    pub remove-job-0 : t ≡ 0 → remove p d ≡ refuse bad-parameter p d
-    unfolding remove removal
-    remove-job-0 z = let f = job-found p (meant p (D1 d)) t a in rw (f .lives, f .place, eq-eqb t 0 z)
+    pub remove-job-0 : t ≡ 0 → outcome remove p d ≡ refuse bad-parameter p d
+    unfolding remove removal outcome
+    remove-job-0 z = let f = job-found p (meant p (D1 d)) t a in rw (a, f .place, eq-eqb t 0 z)
 
-    pub remove-active : (t ≡ 0 → ⊥) → inactive p (tree p t) ≡ false → remove p d ≡ refuse not-complete p d
-    unfolding remove removal
-    remove-active z i = let f = job-found p (meant p (D1 d)) t a in rw (f .lives, f .place, ne-eqb t 0 z, i)
+    pub remove-active : (t ≡ 0 → ⊥) → inactive p (tree p t) ≡ false → outcome remove p d ≡ refuse not-complete p d
+    unfolding remove removal outcome
+    remove-active z i = let f = job-found p (meant p (D1 d)) t a in rw (a, f .place, ne-eqb t 0 z, i)
 
-    pub remove-ends : (t ≡ 0 → ⊥) → inactive p (tree p t) ≡ true → (q e : List ℕ) → q ≡ ended p t (D3 d) → e ≡ cleared d → remove p d ≡ succeed q e
-    unfolding remove removal
-    remove-ends z i q e x y = let f = job-found p (meant p (D1 d)) t a in rw (f .lives, f .place, ne-eqb t 0 z, i, x, y)
+    pub remove-ends : (t ≡ 0 → ⊥) → inactive p (tree p t) ≡ true → (q e : List ℕ) → q ≡ ended p t (D3 d) → e ≡ cleared d → outcome remove p d ≡ succeed q e
+    unfolding remove removal outcome
+    remove-ends z i q e x y = let f = job-found p (meant p (D1 d)) t a in rw (a, f .place, ne-eqb t 0 z, i, x, y)
 
-    pub force-remove-job-0 : t ≡ 0 → force-remove p d ≡ refuse bad-parameter p d
-    unfolding force-remove removal
-    force-remove-job-0 z = let f = job-found p (meant p (D1 d)) t a in rw (f .lives, f .place, eq-eqb t 0 z)
+    pub force-remove-job-0 : t ≡ 0 → outcome force-remove p d ≡ refuse bad-parameter p d
+    unfolding force-remove removal outcome
+    force-remove-job-0 z = let f = job-found p (meant p (D1 d)) t a in rw (a, f .place, eq-eqb t 0 z)
 
-    pub force-remove-ends : (t ≡ 0 → ⊥) → (q e : List ℕ) → q ≡ ended p t (D3 d) → e ≡ cleared d → force-remove p d ≡ succeed q e
-    unfolding force-remove removal
-    force-remove-ends z q e x y = let f = job-found p (meant p (D1 d)) t a in rw (f .lives, f .place, ne-eqb t 0 z, x, y)
+    pub force-remove-ends : (t ≡ 0 → ⊥) → (q e : List ℕ) → q ≡ ended p t (D3 d) → e ≡ cleared d → outcome force-remove p d ≡ succeed q e
+    unfolding force-remove removal outcome
+    force-remove-ends z q e x y = let f = job-found p (meant p (D1 d)) t a in rw (a, f .place, ne-eqb t 0 z, x, y)

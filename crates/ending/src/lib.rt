@@ -20,6 +20,7 @@ ghost use Rattle.picture.specs.Layout.{upto, greatest-size as greatestSize};
 ghost use Rattle.picture.specs.declared.Area.the-variants.{Heap, Transient};
 ghost use Rattle.sound.specs.Sound.{sound};
 ghost use Rattle.calls.specs.Outcome.{Meets};
+ghost use Rattle.calls.specs.Call.{outcome};
 ghost use Rattle.ending.specs.Ended.{returned, ended};
 ghost use Rattle.ending.specs.Remove.{inactive, remove, force-remove as forceRemove};
 
@@ -64,7 +65,7 @@ pub fn end_tree(p: &mut [u32], t: usize, key: u32)
 // Trap 1 $4: the job that D1 means and all its descendants go, if none of them is active.
 pub fn remove(p: &mut [u32], d: &mut [u32]) -> i32
     requires { ⌜ sound (now p) ≡ true ⌝ }
-    ensures { λ r. ⌜ Meets (remove (now (p .entry)) (now (d .entry))) r (now (p .exit)) (now (d .exit)) ⌝ }
+    ensures { λ r. ⌜ Meets (outcome remove (now (p .entry)) (now (d .entry))) r (now (p .exit)) (now (d .exit)) ⌝ }
 {
     let JobFound::At(t) = job_at(p, number_meant(p, word(d, calls::D1))) else {
         return picture::INVALID_JOB;
@@ -83,7 +84,7 @@ pub fn remove(p: &mut [u32], d: &mut [u32]) -> i32
 // Trap 1 $5: the job that D1 means and all its descendants go.
 pub fn force_remove(p: &mut [u32], d: &mut [u32]) -> i32
     requires { ⌜ sound (now p) ≡ true ⌝ }
-    ensures { λ r. ⌜ Meets (forceRemove (now (p .entry)) (now (d .entry))) r (now (p .exit)) (now (d .exit)) ⌝ }
+    ensures { λ r. ⌜ Meets (outcome forceRemove (now (p .entry)) (now (d .entry))) r (now (p .exit)) (now (d .exit)) ⌝ }
 {
     let JobFound::At(t) = job_at(p, number_meant(p, word(d, calls::D1))) else {
         return picture::INVALID_JOB;

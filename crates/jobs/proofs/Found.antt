@@ -23,18 +23,10 @@ at-live p n k e = go (live p Jobs n) e
     go true e = (refl, (cc))
     go false e = absurd (let z : _≡_ {A = ℕ} 0 1 = cc in omega arith)
 
-dead-live : (p : List ℕ) (n : ℕ) → job-at p n ≡ Dead → live p Jobs n ≡ false
-unfolding job-at
-dead-live p n e = go (live p Jobs n) e
-  where
-    go : (b : Bool) → cond b (At (position n)) Dead ≡ Dead → b ≡ false
-    go true e = absurd (let z : _≡_ {A = ℕ} 0 1 = cc in omega arith)
-    go false e = refl
-
 -- the code's number m and position k are those of the job that D1 means, which is live
 pub record Found (p d : List ℕ) (m k : ℕ) : Type 0 where
   pub means : m ≡ job p d
-  pub lives : live p Jobs (job p d) ≡ true
+  pub finds : job-at p (job p d) ≡ At k
   pub placed : k ≡ job-position p d
   pub below : k < positions Jobs
 
@@ -44,8 +36,9 @@ module _ (p d : List ℕ) (w m : ℕ) (r : JobFound) (reads : w ≡ D1 d) (means
 
   pub found : (k : ℕ) → r ≡ At k → Found p d m k
   found k e =
-      let a = at-live p (job p d) k (sym (finds ∙ ap (job-at p) named) ∙ e) in
-      record { means = named; lives = a .0; placed = a .1; below = subst (λ (x : ℕ). x < positions Jobs) (sym (a .1)) (used-below p Jobs (job-position p d) (live-is p Jobs (job p d) (a .0) .used)) }
+      let f = sym (finds ∙ ap (job-at p) named) ∙ e in
+      let a = at-live p (job p d) k f in
+      record { means = named; finds = f; placed = a .1; below = subst (λ (x : ℕ). x < positions Jobs) (sym (a .1)) (used-below p Jobs (job-position p d) (live-is p Jobs (job p d) (a .0) .used)) }
 
-  pub lost : r ≡ Dead → live p Jobs (job p d) ≡ false
-  lost e = dead-live p (job p d) (sym (finds ∙ ap (job-at p) named) ∙ e)
+  pub lost : r ≡ Dead → job-at p (job p d) ≡ Dead
+  lost e = sym (finds ∙ ap (job-at p) named) ∙ e

@@ -1,4 +1,4 @@
 -- Laws of the definitions of specs/.
 pub mod Found
 pub mod Ways
-pub mod Refuses
+pub mod Passed

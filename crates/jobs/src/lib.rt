@@ -2,6 +2,7 @@
 use picture::JobFound;
 use words::word;
 ghost use Rattle.calls.specs.Outcome.{Meets};
+ghost use Rattle.calls.specs.Call.{outcome};
 ghost use Rattle.jobs.specs.Calls.{information, suspend, release, activate, set-priority as setPriority};
 
 // The ASCII version that $0 answers.
@@ -9,7 +10,7 @@ const VERSION: u32 = 0x312E_3030;
 
 // $0: who is current.
 pub fn information(p: &mut [u32], d: &mut [u32]) -> i32
-    ensures { λ r. ⌜ Meets (information (now (p .entry)) (now (d .entry))) r (now (p .exit)) (now (d .exit)) ⌝ }
+    ensures { λ r. ⌜ Meets (outcome information (now (p .entry)) (now (d .entry))) r (now (p .exit)) (now (d .exit)) ⌝ }
 {
     words::put(d, calls::D1, calls::caller_of(p));
     words::put(d, calls::D2, VERSION);
@@ -19,7 +20,7 @@ pub fn information(p: &mut [u32], d: &mut [u32]) -> i32
 
 // $8: suspends a job.
 pub fn suspend(p: &mut [u32], d: &mut [u32]) -> i32
-    ensures { λ r. ⌜ Meets (suspend (now (p .entry)) (now (d .entry))) r (now (p .exit)) (now (d .exit)) ⌝ }
+    ensures { λ r. ⌜ Meets (outcome suspend (now (p .entry)) (now (d .entry))) r (now (p .exit)) (now (d .exit)) ⌝ }
 {
     let number = calls::number_meant(p, word(d, calls::D1));
     let JobFound::At(k) = picture::job_at(p, number) else {
@@ -37,7 +38,7 @@ pub fn suspend(p: &mut [u32], d: &mut [u32]) -> i32
 
 // $9: releases a job.
 pub fn release(p: &mut [u32], d: &mut [u32]) -> i32
-    ensures { λ r. ⌜ Meets (release (now (p .entry)) (now (d .entry))) r (now (p .exit)) (now (d .exit)) ⌝ }
+    ensures { λ r. ⌜ Meets (outcome release (now (p .entry)) (now (d .entry))) r (now (p .exit)) (now (d .exit)) ⌝ }
 {
     let number = calls::number_meant(p, word(d, calls::D1));
     let JobFound::At(k) = picture::job_at(p, number) else {
@@ -51,7 +52,7 @@ pub fn release(p: &mut [u32], d: &mut [u32]) -> i32
 
 // $A: activates a job, for which the caller may wait.
 pub fn activate(p: &mut [u32], d: &mut [u32]) -> i32
-    ensures { λ r. ⌜ Meets (activate (now (p .entry)) (now (d .entry))) r (now (p .exit)) (now (d .exit)) ⌝ }
+    ensures { λ r. ⌜ Meets (outcome activate (now (p .entry)) (now (d .entry))) r (now (p .exit)) (now (d .exit)) ⌝ }
 {
     let number = calls::number_meant(p, word(d, calls::D1));
     let JobFound::At(k) = picture::job_at(p, number) else {
@@ -78,7 +79,7 @@ pub fn activate(p: &mut [u32], d: &mut [u32]) -> i32
 
 // $B: sets a job's priority.
 pub fn set_priority(p: &mut [u32], d: &mut [u32]) -> i32
-    ensures { λ r. ⌜ Meets (setPriority (now (p .entry)) (now (d .entry))) r (now (p .exit)) (now (d .exit)) ⌝ }
+    ensures { λ r. ⌜ Meets (outcome setPriority (now (p .entry)) (now (d .entry))) r (now (p .exit)) (now (d .exit)) ⌝ }
 {
     let number = calls::number_meant(p, word(d, calls::D1));
     let JobFound::At(k) = picture::job_at(p, number) else {

@@ -2,7 +2,7 @@
 use Prim.Native.Nat.{ℕ, _+_, _*_, _%_, _≤_, _<_}
 use mathlib.Core.Path.{_≡_, refl, sym, ap, _∙_, subst}
 use mathlib.Core.Bool.{Bool, true, false, cond, not, _&&_}
-use mathlib.Core.Logic.{⊎-elim, _⊎_, inl, inr}
+use mathlib.Core.Logic.{inl, inr}
 use mathlib.Core.List.{List}
 use native.Mathlib.Omega.{arith}
 use lib.ListN.{length, set, length-set}
@@ -27,89 +27,70 @@ use Rattle.timeouts.specs.declared.Timeout.{Timeout}
 use Rattle.timeouts.specs.declared.Timeout.the-variants.{Zero, Frames, Endless, Bad}
 use Rattle.timeouts.proofs.Cases.{longword-within}
 use Rattle.calls.specs.Outcome.{Outcome}
+use Rattle.calls.specs.Call.{outcome}
 use Rattle.calls.specs.Registers.{D2, D3, caller}
 use Rattle.calls.specs.Writes.{with-field, with-nobody}
 use Rattle.steady.proofs.Steady.{Steady, Alike, steady-ages, steady-live, steady-used, steady-then}
 use Rattle.steady.proofs.Writes.{Written, steady-current, written-sound, written-nobody-sound, nobody-sound}
 use Rattle.effects.specs.Effects.{suspended, released, low-byte, prioritized, may-wait, endless, waiting}
 use Rattle.jobs.specs.Calls.{job, job-position, information, suspend, release, activate, set-priority}
-use Rattle.jobs.proofs.Refuses.{Way, suspend-success, release-success, activate-success, set-priority-success, suspend-way, release-way, activate-way, set-priority-way}
+use Rattle.jobs.proofs.Passed.{suspend-ways, release-ways, activate-ways, set-priority-ways}
 use Rattle.jobs_kept.proofs.Effects.{suspended-written, suspended-turning, released-written, released-turning, prioritized-written, prioritized-turning, prioritized-current, awaiting-written, awaiting-turning}
 
--- a call keeps soundness and ages if its success does
-abbrev Picture : Outcome → List ℕ
-Picture o = o .picture
-
-kept-sound : (p d : List ℕ) (x o : Outcome) (C : Type 0) → Way p d x o C → sound p ≡ true → (C → Sound (Picture x)) → sound (Picture o) ≡ true
-kept-sound p d x o C w h s = ⊎-elim
-    (λ r. rw (r .0) h)
-    (λ z. ap (λ (y : Outcome). sound (Picture y)) (z .0) ∙ sound-again (Picture x) (s (z .1)))
-    w
-
-kept-ages : (p d : List ℕ) (x o : Outcome) (C : Type 0) (t : Table) → Way p d x o C → (C → Steady p (Picture x)) → Ages p (Picture o) t
-kept-ages p d x o C t w s = ⊎-elim
-    (λ r. subst (λ (q : List ℕ). Ages p q t) (sym (r .0)) (ages-still p t))
-    (λ z. subst (λ (y : Outcome). Ages p (Picture y) t) (sym (z .0)) (steady-ages p (Picture x) (s (z .1)) t))
-    w
-
-nobody-steady : (p q : List ℕ) → Steady p q → Steady p (with-nobody q)
-nobody-steady p q s = steady-then p q (with-nobody q) s (steady-current q nobody)
+nobody-ages : (p q : List ℕ) → Steady p q → (t : Table) → Ages p (with-nobody q) t
+nobody-ages p q s t = steady-ages p (with-nobody q) (steady-then p q (with-nobody q) s (steady-current q nobody)) t
 
 -- a live number's position is in use
 at-used : (p : List ℕ) (n : ℕ) → live p Jobs n ≡ true → used p Jobs (position n) ≡ true
 at-used p n l = live-is p Jobs n l .used
 
 -- $0
-pub information-keeps-sound : (p d : List ℕ) → sound p ≡ true → sound (information p d .picture) ≡ true
-unfolding information
+pub information-keeps-sound : (p d : List ℕ) → sound p ≡ true → sound (outcome information p d .picture) ≡ true
+unfolding information outcome
 information-keeps-sound p d h = h
 
-pub information-ages : (p d : List ℕ) → sound p ≡ true → (t : Table) → Ages p (information p d .picture) t
-unfolding information
+pub information-ages : (p d : List ℕ) → sound p ≡ true → (t : Table) → Ages p (outcome information p d .picture) t
+unfolding information outcome
 information-ages p d h t = ages-still p t
 
 -- $8
-pub suspend-keeps-sound : (p d : List ℕ) → sound p ≡ true → sound (suspend p d .picture) ≡ true
+pub suspend-keeps-sound : (p d : List ℕ) → sound p ≡ true → sound (outcome suspend p d .picture) ≡ true
 suspend-keeps-sound p d h =
     let S = view p h in
-    kept-sound p d (suspend-success p d) (suspend p d) _ (suspend-way p d) h (λ z.
-    let u = at-used p (job p d) (z .0) in
+    suspend-ways (λ (o : Outcome). sound (o .picture) ≡ true) p d (λ k. h) (λ lives _.
+    let u = at-used p (job p d) lives in
     let t = longword (timeout-in (D3 d)) in
-    written-nobody-sound p (suspended p (job-position p d) t) (job-position p d) S (suspended-written p S (job-position p d) u t) (suspended-turning p S (job-position p d) u t (longword-within (low-half (D3 d)))))
+    sound-again _ (written-nobody-sound p (suspended p (job-position p d) t) (job-position p d) S (suspended-written p S (job-position p d) u t) (suspended-turning p S (job-position p d) u t (longword-within (low-half (D3 d))))))
 
-pub suspend-ages : (p d : List ℕ) → sound p ≡ true → (t : Table) → Ages p (suspend p d .picture) t
-suspend-ages p d h t =
-    let S = view p h in
-    kept-ages p d (suspend-success p d) (suspend p d) _ t (suspend-way p d) (λ z.
-    nobody-steady p (suspended p (job-position p d) (longword (timeout-in (D3 d)))) (suspended-written p S (job-position p d) (at-used p (job p d) (z .0)) (longword (timeout-in (D3 d))) .steady))
+pub suspend-ages : (p d : List ℕ) → sound p ≡ true → (t : Table) → Ages p (outcome suspend p d .picture) t
+suspend-ages p d h t = suspend-ways (λ (o : Outcome). Ages p (o .picture) t) p d (λ k. ages-still p t) (λ lives _.
+    let x = longword (timeout-in (D3 d)) in
+    nobody-ages p (suspended p (job-position p d) x) (suspended-written p (view p h) (job-position p d) (at-used p (job p d) lives) x .steady) t)
 
 -- $9
-pub release-keeps-sound : (p d : List ℕ) → sound p ≡ true → sound (release p d .picture) ≡ true
+pub release-keeps-sound : (p d : List ℕ) → sound p ≡ true → sound (outcome release p d .picture) ≡ true
 release-keeps-sound p d h =
     let S = view p h in
-    kept-sound p d (release-success p d) (release p d) _ (release-way p d) h (λ z.
-    let u = at-used p (job p d) (z .0) in
-    written-nobody-sound p (released p (job-position p d)) (job-position p d) S (released-written p S (job-position p d) u) (released-turning p S (job-position p d) u))
+    release-ways (λ (o : Outcome). sound (o .picture) ≡ true) p d (λ k. h) (λ lives.
+    let u = at-used p (job p d) lives in
+    sound-again _ (written-nobody-sound p (released p (job-position p d)) (job-position p d) S (released-written p S (job-position p d) u) (released-turning p S (job-position p d) u)))
 
-pub release-ages : (p d : List ℕ) → sound p ≡ true → (t : Table) → Ages p (release p d .picture) t
-release-ages p d h t =
-    let S = view p h in
-    kept-ages p d (release-success p d) (release p d) _ t (release-way p d) (λ z. nobody-steady p (released p (job-position p d)) (released-written p S (job-position p d) (at-used p (job p d) (z .0)) .steady))
+pub release-ages : (p d : List ℕ) → sound p ≡ true → (t : Table) → Ages p (outcome release p d .picture) t
+release-ages p d h t = release-ways (λ (o : Outcome). Ages p (o .picture) t) p d (λ k. ages-still p t) (λ lives.
+    nobody-ages p (released p (job-position p d)) (released-written p (view p h) (job-position p d) (at-used p (job p d) lives) .steady) t)
 
 -- $B
-pub set-priority-keeps-sound : (p d : List ℕ) → sound p ≡ true → sound (set-priority p d .picture) ≡ true
+pub set-priority-keeps-sound : (p d : List ℕ) → sound p ≡ true → sound (outcome set-priority p d .picture) ≡ true
 set-priority-keeps-sound p d h =
     let S = view p h in
-    kept-sound p d (set-priority-success p d) (set-priority p d) _ (set-priority-way p d) h (λ z.
-    let u = at-used p (job p d) (z .0) in
+    set-priority-ways (λ (o : Outcome). sound (o .picture) ≡ true) p d (λ k. h) (λ lives good.
+    let u = at-used p (job p d) lives in
     let v = low-byte (D2 d) in
-    written-nobody-sound p (prioritized p (job-position p d) v) (job-position p d) S (prioritized-written p S (job-position p d) u v) (prioritized-turning p S (job-position p d) u v (leb-true v greatest-priority (z .1 .0))))
+    sound-again _ (written-nobody-sound p (prioritized p (job-position p d) v) (job-position p d) S (prioritized-written p S (job-position p d) u v) (prioritized-turning p S (job-position p d) u v (leb-true v greatest-priority good))))
 
-pub set-priority-ages : (p d : List ℕ) → sound p ≡ true → (t : Table) → Ages p (set-priority p d .picture) t
-set-priority-ages p d h t =
-    let S = view p h in
-    kept-ages p d (set-priority-success p d) (set-priority p d) _ t (set-priority-way p d) (λ z.
-    nobody-steady p (prioritized p (job-position p d) (low-byte (D2 d))) (prioritized-written p S (job-position p d) (at-used p (job p d) (z .0)) (low-byte (D2 d)) .steady))
+pub set-priority-ages : (p d : List ℕ) → sound p ≡ true → (t : Table) → Ages p (outcome set-priority p d .picture) t
+set-priority-ages p d h t = set-priority-ways (λ (o : Outcome). Ages p (o .picture) t) p d (λ k. ages-still p t) (λ lives _.
+    nobody-ages p (prioritized p (job-position p d) (low-byte (D2 d))) (prioritized-written p (view p h) (job-position p d) (at-used p (job p d) lives) (low-byte (D2 d)) .steady) t)
 
 -- $A: the caller is ready and the job named is not active, so they are two
 module _ (p : List ℕ) (S : Sound p) (n v : ℕ) (lives : live p Jobs n ≡ true) (idle : active p (position n) ≡ false) where
@@ -197,13 +178,11 @@ module _ (p : List ℕ) (S : Sound p) (n v : ℕ) (lives : live p Jobs n ≡ tru
 good-priority : (v : ℕ) → leb 1 v && leb v greatest-priority ≡ true → v ≤ greatest-priority
 good-priority v h = leb-true v greatest-priority (both (leb 1 v) (leb v greatest-priority) h .1)
 
-pub activate-keeps-sound : (p d : List ℕ) → sound p ≡ true → sound (activate p d .picture) ≡ true
-activate-keeps-sound p d h =
-    kept-sound p d (activate-success p d) (activate p d) _ (activate-way p d) h (λ z.
-    activated-sound p (view p h) (job p d) (low-byte (D2 d)) (z .0) (z .1 .0) (timeout-in (D3 d)) (good-priority (low-byte (D2 d)) (z .1 .1 .0)))
+pub activate-keeps-sound : (p d : List ℕ) → sound p ≡ true → sound (outcome activate p d .picture) ≡ true
+activate-keeps-sound p d h = activate-ways (λ (o : Outcome). sound (o .picture) ≡ true) p d (λ k. h) (λ lives idle good _.
+    sound-again _ (activated-sound p (view p h) (job p d) (low-byte (D2 d)) lives idle (timeout-in (D3 d)) (good-priority (low-byte (D2 d)) good)))
 
-pub activate-ages : (p d : List ℕ) → sound p ≡ true → (t : Table) → Ages p (activate p d .picture) t
-activate-ages p d h t =
-    kept-ages p d (activate-success p d) (activate p d) _ t (activate-way p d) (λ z.
+pub activate-ages : (p d : List ℕ) → sound p ≡ true → (t : Table) → Ages p (outcome activate p d .picture) t
+activate-ages p d h t = activate-ways (λ (o : Outcome). Ages p (o .picture) t) p d (λ k. ages-still p t) (λ lives idle good _.
     let q = waiting (prioritized p (job-position p d) (low-byte (D2 d))) (timeout-in (D3 d)) (position (caller p)) (job p d) in
-    nobody-steady p q (activated-steady p (view p h) (job p d) (low-byte (D2 d)) (z .0) (z .1 .0) (timeout-in (D3 d)) (good-priority (low-byte (D2 d)) (z .1 .1 .0))))
+    nobody-ages p q (activated-steady p (view p h) (job p d) (low-byte (D2 d)) lives idle (timeout-in (D3 d)) (good-priority (low-byte (D2 d)) good)) t)

@@ -1,22 +1,11 @@
--- What holds of each way out of a test holds of what the test comes to.
-use mathlib.Core.Path.{_≡_, refl}
-use mathlib.Core.Bool.{Bool, true, false, cond}
+-- What holds of a call's effect where all checks pass holds of the call where it answers 0.
+use mathlib.Core.Path.{_≡_, sym, subst}
 use mathlib.Core.List.{List}
 use Prim.Native.Nat.{ℕ}
-use lib.IntN.{ℤ}
 use Rattle.picture.specs.Keys.{done}
-use Rattle.calls.specs.Outcome.{Outcome, refuse, succeed}
+use Rattle.calls.specs.Outcome.{Outcome}
+use Rattle.calls.specs.Call.{Call, outcome}
+use Rattle.calls.proofs.Call.{Passed, Never, success, where-all-pass, done-only-where-all-pass}
 
-pub either-way : (P : Outcome → Type 0) (b : Bool) (o r : Outcome) → (b ≡ true → P o) → (b ≡ false → P r) → P (cond b o r)
-either-way P true o r f g = f refl
-either-way P false o r f g = g refl
-
--- an outcome other than success leaves the picture and the registers as they were
-abbrev pub Refuses : Outcome → List ℕ → List ℕ → Type 0
-Refuses o p d = (o .key ≡ done → ⊥) → (o .picture ≡ p) × (o .registers ≡ d)
-
-pub success-refuses-nothing : (p d q e : List ℕ) → Refuses (succeed q e) p d
-success-refuses-nothing p d q e n = absurd (n refl)
-
-pub a-test-refuses : (b : Bool) (o : Outcome) (k : ℤ) (p d : List ℕ) → Refuses o p d → Refuses (cond b o (refuse k p d)) p d
-a-test-refuses b o k p d h = either-way (λ (x : Outcome). Refuses x p d) b o (refuse k p d) (λ e. h) (λ e n. (refl, refl))
+pub where-done : (P : Outcome → Type 0) (c : Call) (p d : List ℕ) → Never done (c p d .checks) → (Passed (c p d .checks) → P (success (c p d))) → outcome c p d .key ≡ done → P (outcome c p d)
+where-done P c p d never f e = let h = done-only-where-all-pass c p d never e in subst P (sym (where-all-pass c p d h)) (f h)

@@ -18,8 +18,8 @@ use Rattle.placing.specs.Place.{placed}
 use Rattle.placing.proofs.Chosen.{Chosen}
 use Rattle.placing.proofs.Placed.{Placed, placed-keeps-the-area}
 use Rattle.facts.proofs.Sound.{Tiled}
-use Rattle.rooms.specs.Room.{spot, has-room}
-use Rattle.rooms.proofs.Room.{spot-is-free-and-enough}
+use Rattle.rooms.specs.Room.{spot}
+use Rattle.rooms.proofs.Room.{has-room, spot-is-free-and-enough}
 use Rattle.rooms.proofs.Sizes.{Lies}
 use Rattle.keeping.proofs.Tables.{TablesSame}
 use Rattle.keeping.proofs.Moved.{Kept}

@@ -1,11 +1,10 @@
 -- The checks of the door, one after the other.
 use Prim.Native.Nat.{ℕ}
-use mathlib.Core.Path.{_≡_, refl, sym, ap, _∙_}
+use mathlib.Core.Path.{_≡_}
 use mathlib.Core.Bool.{true, false}
 use mathlib.Core.List.{List}
 use lib.IntN.{ℤ}
 use lib.ListN.{length}
-use lib.Dec.{eqb}
 use mir.Syntax.{w32}
 use mir.Val.{ofZ}
 use borrow.Author.Tests.{eq-eqb, ne-eqb}
@@ -14,43 +13,44 @@ use Rattle.picture.specs.Layout.{nobody}
 use Rattle.picture.specs.Keys.{invalid-job, bad-parameter, not-sound}
 use Rattle.sound.specs.Sound.{sound}
 use Rattle.calls.specs.Outcome.{Outcome, refuse, Meets}
+use Rattle.calls.specs.Call.{outcome}
 use Rattle.calls.specs.Registers.{caller}
 use Rattle.manager.specs.Door.{trap-one, trap-two, trap-three, named, checked, with-key, called}
 
 module _ (trap : ℕ) (p d name : List ℕ) where
-  pub checked-unsound : sound p ≡ false → checked trap p d name ≡ refuse not-sound p d
-  unfolding checked
+  pub checked-unsound : sound p ≡ false → outcome (checked trap name) p d ≡ refuse not-sound p d
+  unfolding checked outcome
   checked-unsound s = rw s
 
-  pub checked-nobody : sound p ≡ true → caller p ≡ nobody → checked trap p d name ≡ refuse invalid-job p d
-  unfolding checked
+  pub checked-nobody : sound p ≡ true → caller p ≡ nobody → outcome (checked trap name) p d ≡ refuse invalid-job p d
+  unfolding checked outcome
   checked-nobody s n = rw (s, eq-eqb (caller p) nobody n)
 
-  pub checked-named : sound p ≡ true → (caller p ≡ nobody → ⊥) → checked trap p d name ≡ named trap p d name
-  unfolding checked
+  pub checked-named : sound p ≡ true → (caller p ≡ nobody → ⊥) → outcome (checked trap name) p d ≡ outcome (named trap name) p d
+  unfolding checked outcome
   checked-named s n = rw (s, ne-eqb (caller p) nobody n)
 
-  pub named-one : trap ≡ 1 → named trap p d name ≡ trap-one (word d 0) p d
-  unfolding named
+  pub named-one : trap ≡ 1 → outcome (named trap name) p d ≡ outcome (trap-one (word d 0)) p d
+  unfolding named outcome
   named-one e = rw e
 
-  pub named-two : trap ≡ 2 → named trap p d name ≡ trap-two (word d 0) p d name
-  unfolding named
+  pub named-two : trap ≡ 2 → outcome (named trap name) p d ≡ outcome (trap-two (word d 0) name) p d
+  unfolding named outcome
   named-two e = rw e
 
-  pub named-three : trap ≡ 3 → named trap p d name ≡ trap-three (word d 0) p d
-  unfolding named
+  pub named-three : trap ≡ 3 → outcome (named trap name) p d ≡ outcome (trap-three (word d 0)) p d
+  unfolding named outcome
   named-three e = rw e
 
-  pub named-unknown : (trap ≡ 1 → ⊥) → (trap ≡ 2 → ⊥) → (trap ≡ 3 → ⊥) → named trap p d name ≡ refuse bad-parameter p d
-  unfolding named
+  pub named-unknown : (trap ≡ 1 → ⊥) → (trap ≡ 2 → ⊥) → (trap ≡ 3 → ⊥) → outcome (named trap name) p d ≡ refuse bad-parameter p d
+  unfolding named outcome
   named-unknown a b c = rw (ne-eqb trap 1 a, ne-eqb trap 2 b, ne-eqb trap 3 c)
 
   pub called-otherwise : (length d ≡ 8 → ⊥) → called trap p d name ≡ refuse bad-parameter p d
   unfolding called
   called-otherwise n = rw (ne-eqb (length d) 8 n)
 
-  pub called-with-eight : length d ≡ 8 → called trap p d name ≡ with-key (checked trap p d name)
+  pub called-with-eight : length d ≡ 8 → called trap p d name ≡ with-key (outcome (checked trap name) p d)
   unfolding called
   called-with-eight e = rw (eq-eqb (length d) 8 e)
 

@@ -1,7 +1,7 @@
 -- Document 01: "Order: registers not 8 (-15 is answered, nothing written), picture, nobody current,
 -- unknown trap or call (all 32 bits of D0 count), then as listed per call. A refusal writes D0 only; success sets D0 to 0."
 use Prim.Native.Nat.{ℕ}
-use mathlib.Core.Bool.{cond}
+use mathlib.Core.Bool.{false, not, cond}
 use mathlib.Core.List.{List, [], _∷_}
 use lib.ListN.{length}
 use lib.Dec.{eqb}
@@ -12,6 +12,7 @@ use Rattle.picture.specs.Layout.{nobody}
 use Rattle.picture.specs.Keys.{invalid-job, bad-parameter, not-sound}
 use Rattle.sound.specs.Sound.{sound}
 use Rattle.calls.specs.Outcome.{Outcome, refuse}
+use Rattle.calls.specs.Call.{Call, outcome}
 use Rattle.calls.specs.Registers.{caller}
 use Rattle.jobs.specs.Calls.{information, suspend, release, activate, set-priority}
 use Rattle.asking.specs.Ask.{ask}
@@ -21,58 +22,65 @@ use Rattle.memory.specs.Memory.{longest-room, take, give-back}
 use Rattle.opening.specs.Calls.{open-channel}
 use Rattle.channels.specs.Calls.{close-channel, pending, fetch, send}
 
--- the outcome behind a number in a list, or another where the number isn't there
-abbrev pub among : ℕ → List (ℕ × Outcome) → Outcome → Outcome
-among n [] o = o
-among n (e ∷ l) o = cond (eqb n (e .0)) (e .1) (among n l o)
+-- the call behind a number in a list, or another where the number isn't there
+abbrev pub among : ℕ → List (ℕ × Call) → Call → Call
+among n [] c = c
+among n (e ∷ l) c = cond (eqb n (e .0)) (e .1) (among n l c)
+
+-- an unknown trap or call: a check that never passes
+abbrev pub unknown : Call
+unknown p d = record { checks = (false, bad-parameter) ∷ []; picture = p; registers = d }
 
 -- the calls of trap 1
-abbrev pub calls-one : List ℕ → List ℕ → List (ℕ × Outcome)
-calls-one p d =
-    (0, information p d) ∷
-    (1, create p d) ∷
-    (2, ask p d) ∷
-    (4, remove p d) ∷
-    (5, force-remove p d) ∷
-    (6, longest-room p d) ∷
-    (8, suspend p d) ∷
-    (9, release p d) ∷
-    (10, activate p d) ∷
-    (11, set-priority p d) ∷
-    (24, take p d) ∷
-    (25, give-back p d) ∷ []
+abbrev pub calls-one : List (ℕ × Call)
+calls-one =
+    (0x0, information) ∷
+    (0x1, create) ∷
+    (0x2, ask) ∷
+    (0x4, remove) ∷
+    (0x5, force-remove) ∷
+    (0x6, longest-room) ∷
+    (0x8, suspend) ∷
+    (0x9, release) ∷
+    (0xA, activate) ∷
+    (0xB, set-priority) ∷
+    (0x18, take) ∷
+    (0x19, give-back) ∷ []
 
 -- the calls of trap 2
-abbrev pub calls-two : List ℕ → List ℕ → List ℕ → List (ℕ × Outcome)
-calls-two p d name = (1, open-channel p d name) ∷ (2, close-channel p d) ∷ []
+abbrev pub calls-two : List ℕ → List (ℕ × Call)
+calls-two name = (0x1, open-channel name) ∷ (0x2, close-channel) ∷ []
 
 -- the calls of trap 3
-abbrev pub calls-three : List ℕ → List ℕ → List (ℕ × Outcome)
-calls-three p d = (0, pending p d) ∷ (1, fetch p d) ∷ (5, send p d) ∷ []
+abbrev pub calls-three : List (ℕ × Call)
+calls-three = (0x0, pending) ∷ (0x1, fetch) ∷ (0x5, send) ∷ []
 
-unfoldable pub trap-one : ℕ → List ℕ → List ℕ → Outcome
-trap-one code p d = among code (calls-one p d) (refuse bad-parameter p d)
+unfoldable pub trap-one : ℕ → Call
+trap-one code = among code calls-one unknown
 
-unfoldable pub trap-two : ℕ → List ℕ → List ℕ → List ℕ → Outcome
-trap-two code p d name = among code (calls-two p d name) (refuse bad-parameter p d)
+unfoldable pub trap-two : ℕ → List ℕ → Call
+trap-two code name = among code (calls-two name) unknown
 
-unfoldable pub trap-three : ℕ → List ℕ → List ℕ → Outcome
-trap-three code p d = among code (calls-three p d) (refuse bad-parameter p d)
+unfoldable pub trap-three : ℕ → Call
+trap-three code = among code calls-three unknown
 
--- the traps, each by D0
-abbrev pub traps : List ℕ → List ℕ → List ℕ → List (ℕ × Outcome)
-traps p d name = (1, trap-one (word d 0) p d) ∷ (2, trap-two (word d 0) p d name) ∷ (3, trap-three (word d 0) p d) ∷ []
+-- the traps, each by its code
+abbrev pub traps : ℕ → List ℕ → List (ℕ × Call)
+traps code name = (1, trap-one code) ∷ (2, trap-two code name) ∷ (3, trap-three code) ∷ []
 
 -- the call that a trap number and D0 name
-unfoldable pub named : ℕ → List ℕ → List ℕ → List ℕ → Outcome
-named trap p d name = among trap (traps p d name) (refuse bad-parameter p d)
+unfoldable pub named : ℕ → List ℕ → Call
+named trap name p d = among trap (traps (word d 0) name) unknown p d
 
--- the picture, then nobody current, then the call
-unfoldable pub checked : ℕ → List ℕ → List ℕ → List ℕ → Outcome
-checked trap p d name =
-    cond (sound p)
-    (cond (eqb (caller p) nobody) (refuse invalid-job p d) (named trap p d name))
-    (refuse not-sound p d)
+-- the picture, then nobody current, then the call's own checks
+unfoldable pub checked : ℕ → List ℕ → Call
+checked trap name p d = record {
+  checks =
+      (sound p, not-sound) ∷
+      (not (eqb (caller p) nobody), invalid-job) ∷ named trap name p d .checks;
+  picture = named trap name p d .picture;
+  registers = named trap name p d .registers;
+}
 
 -- D0 gets the key
 abbrev pub with-key : Outcome → Outcome
@@ -80,4 +88,4 @@ with-key o = record { key = o .key; picture = o .picture; registers = put (o .re
 
 -- a trap call
 unfoldable pub called : ℕ → List ℕ → List ℕ → List ℕ → Outcome
-called trap p d name = cond (eqb (length d) 8) (with-key (checked trap p d name)) (refuse bad-parameter p d)
+called trap p d name = cond (eqb (length d) 8) (with-key (outcome (checked trap name) p d)) (refuse bad-parameter p d)

@@ -4,6 +4,7 @@ use words::word;
 ghost use mathlib.Core.Path.{_≡_};
 ghost use mathlib.Core.Bool.{true};
 ghost use Rattle.calls.specs.Outcome.{Meets};
+ghost use Rattle.calls.specs.Call.{outcome};
 ghost use Rattle.sound.specs.Sound.{sound};
 ghost use Rattle.fresh.specs.Fresh.{fresh-key as freshKey, fresh-picture as freshPicture};
 ghost use Rattle.errors.specs.Text.{Answer, spot-of as spotOf, error-key as errorKey};
@@ -13,7 +14,7 @@ ghost use Rattle.manager.specs.Turn.{ticking, pick-picture as pickPictur
 // Trap 1, by all 32 bits of D0.
 fn trap_one(code: u32, d: &mut [u32], p: &mut [u32]) -> i32
     requires { ⌜ sound (now p) ≡ true ⌝ }
-    ensures { λ r. ⌜ Meets (trapOne code (now (p .entry)) (now (d .entry))) r (now (p .exit)) (now (d .exit)) ⌝ }
+    ensures { λ r. ⌜ Meets (outcome (trapOne code) (now (p .entry)) (now (d .entry))) r (now (p .exit)) (now (d .exit)) ⌝ }
 {
     match code {
         0x0 => jobs::information(p, d),
@@ -35,7 +36,7 @@ fn trap_one(code: u32, d: &mut [u32], p: &mut [u32]) -> i32
 // Trap 2, by all 32 bits of D0.
 fn trap_two(code: u32, d: &mut [u32], name: &[u8], p: &mut [u32]) -> i32
     requires { ⌜ sound (now p) ≡ true ⌝ }
-    ensures { λ r. ⌜ Meets (trapTwo code (now (p .entry)) (now (d .entry)) (now (name .entry))) r (now (p .exit)) (now (d .exit)) ⌝ }
+    ensures { λ r. ⌜ Meets (outcome (trapTwo code (now (name .entry))) (now (p .entry)) (now (d .entry))) r (now (p .exit)) (now (d .exit)) ⌝ }
 {
     match code {
         0x1 => opening::open_channel(p, d, name),
@@ -47,7 +48,7 @@ fn trap_two(code: u32, d: &mut [u32], name: &[u8], p: &mut [u32]) -> i32
 // Trap 3, by all 32 bits of D0.
 fn trap_three(code: u32, d: &mut [u32], p: &mut [u32]) -> i32
     requires { ⌜ sound (now p) ≡ true ⌝ }
-    ensures { λ r. ⌜ Meets (trapThree code (now (p .entry)) (now (d .entry))) r (now (p .exit)) (now (d .exit)) ⌝ }
+    ensures { λ r. ⌜ Meets (outcome (trapThree code) (now (p .entry)) (now (d .entry))) r (now (p .exit)) (now (d .exit)) ⌝ }
 {
     match code {
         0x0 => channels::pending(p, d),
@@ -59,7 +60,7 @@ fn trap_three(code: u32, d: &mut [u32], p: &mut [u32]) -> i32
 
 // The picture, then nobody current, then an unknown trap or call, then the call.
 fn answer_call(trap: u32, d: &mut [u32], name: &[u8], p: &mut [u32]) -> i32
-    ensures { λ r. ⌜ Meets (checked trap (now (p .entry)) (now (d .entry)) (now (name .entry))) r (now (p .exit)) (now (d .exit)) ⌝ }
+    ensures { λ r. ⌜ Meets (outcome (checked trap (now (name .entry))) (now (p .entry)) (now (d .entry))) r (now (p .exit)) (now (d .exit)) ⌝ }
 {
     if !sound::is_sound(p) {
         return picture::NOT_SOUND;

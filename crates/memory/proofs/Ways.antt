@@ -8,62 +8,63 @@ use borrow.Author.Tests.{ltb-true}
 use Rattle.words.specs.Each.{any}
 use Rattle.words.proofs.Tests.{both}
 use Rattle.picture.specs.Layout.{from, upto}
-use Rattle.picture.specs.Numbers.{live}
+use Rattle.picture.specs.Numbers.{job-at}
 use Rattle.picture.specs.Keys.{done, invalid-job, out-of-memory, bad-parameter}
-use Rattle.picture.specs.declared.Table.the-variants.{Jobs}
-use Rattle.picture.specs.declared.Area.the-variants.{Heap, Transient}
+use Rattle.picture.specs.declared.JobFound.the-variants as job
+use Rattle.picture.specs.declared.Area.the-variants.{Heap}
 use Rattle.blocks.specs.Header.{plain-kind}
 use Rattle.blocks.specs.Walk.{starts, next}
 use Rattle.blocks.proofs.Walk.{starts-end, starts-more}
 use Rattle.placing.specs.Place.{answer, after}
 use Rattle.placing.specs.declared.Placement.the-variants.{At, Nowhere}
 use Rattle.placing.proofs.Answer.{after-at, after-nowhere}
-use Rattle.rooms.specs.Room.{spot, has-room}
-use Rattle.rooms.proofs.Room.{placed-there, placed-nowhere}
-use Rattle.calls.specs.Outcome.{Outcome, refuse, succeed, Meets}
+use Rattle.rooms.specs.Room.{spot, room-at}
+use Rattle.rooms.proofs.Room.{placed-there}
+use Rattle.calls.specs.Outcome.{refuse, succeed, Meets}
+use Rattle.calls.specs.Call.{outcome}
 use Rattle.calls.specs.Registers.{D1, D2, A0, cleared, meant}
 use Rattle.calls.proofs.Outcome.{meets-refuse, meets-succeed}
 use Rattle.memory.specs.Memory.{length-good, taken-length, room-registers, taken, take, is-plain-room, given-back, give-back}
 
 module _ (p d : List ℕ) where
-  pub take-bad : length-good (D1 d) ≡ false → take p d ≡ refuse bad-parameter p d
-  unfolding take
+  pub take-bad : length-good (D1 d) ≡ false → outcome take p d ≡ refuse bad-parameter p d
+  unfolding take outcome
   take-bad h = rw h
 
-  pub take-dead : length-good (D1 d) ≡ true → live p Jobs (meant p (D2 d)) ≡ false → take p d ≡ refuse invalid-job p d
-  unfolding take
+  pub take-dead : length-good (D1 d) ≡ true → job-at p (meant p (D2 d)) ≡ job.Dead → outcome take p d ≡ refuse invalid-job p d
+  unfolding take outcome
   take-dead h l = rw (h, l)
 
-  pub take-full : length-good (D1 d) ≡ true → live p Jobs (meant p (D2 d)) ≡ true → has-room p Heap (taken-length d) ≡ false → take p d ≡ refuse out-of-memory p d
-  unfolding take
-  take-full h l r = rw (h, l, r)
+  pub take-full : (k : ℕ) → length-good (D1 d) ≡ true → job-at p (meant p (D2 d)) ≡ job.At k → room-at p Heap (taken-length d) ≡ Nowhere → outcome take p d ≡ refuse out-of-memory p d
+  unfolding take outcome
+  take-full k h l r = rw (h, l, r)
 
-  pub take-done : length-good (D1 d) ≡ true → live p Jobs (meant p (D2 d)) ≡ true → has-room p Heap (taken-length d) ≡ true
-      → take p d ≡ succeed (taken p d) (room-registers (taken-length d) (spot p Heap (taken-length d)) d)
-  unfolding take
-  take-done h l r = rw (h, l, r)
+  pub take-done : (k i : ℕ) → length-good (D1 d) ≡ true → job-at p (meant p (D2 d)) ≡ job.At k → room-at p Heap (taken-length d) ≡ At i
+      → outcome take p d ≡ succeed (taken p d) (room-registers (taken-length d) (spot p Heap (taken-length d)) d)
+  unfolding take outcome
+  take-done k i h l r = rw (h, l, r)
 
   -- the same, from what placing answers
-  module _ (n o : ℕ) (good : length-good (D1 d) ≡ true) (alive : live p Jobs (meant p (D2 d)) ≡ true) (long : n ≡ taken-length d) (owner : o ≡ meant p (D2 d)) (q : List ℕ)
+  module _ (n o k : ℕ) (good : length-good (D1 d) ≡ true) (alive : job-at p (meant p (D2 d)) ≡ job.At k) (long : n ≡ taken-length d) (owner : o ≡ meant p (D2 d)) (q : List ℕ)
       (leaves : q ≡ after p (from p Heap) (upto p Heap) n plain-kind o 0) where
-    pub take-nowhere : answer p (from p Heap) (upto p Heap) n ≡ Nowhere → Meets (take p d) out-of-memory q d
+    pub take-nowhere : answer p (from p Heap) (upto p Heap) n ≡ Nowhere → Meets (outcome take p d) out-of-memory q d
     take-nowhere h =
         rw (leaves, after-nowhere p (from p Heap) (upto p Heap) n plain-kind o 0 h)
-        (meets-refuse _ _ _ _ (take-full good alive (rw long at (placed-nowhere p Heap n h))))
+        (meets-refuse _ _ _ _ (take-full k good alive (rw long at h)))
 
-    pub take-there : (e : List ℕ) (i : ℕ) → answer p (from p Heap) (upto p Heap) n ≡ At i → e ≡ room-registers n i d → Meets (take p d) done q e
+    pub take-there : (e : List ℕ) (i : ℕ) → answer p (from p Heap) (upto p Heap) n ≡ At i → e ≡ room-registers n i d → Meets (outcome take p d) done q e
     unfolding taken
     take-there e i h g =
         let r = placed-there p Heap n i h in
         rw (leaves, after-at p (from p Heap) (upto p Heap) n i plain-kind o 0 h, g)
-        (meets-succeed _ _ _ (take-done good alive (rw long at (r .0)) ∙ rw (← long, r .1 .0, owner)))
+        (meets-succeed _ _ _ (take-done k i good alive (rw long at h) ∙ rw (← long, r .1 .0, owner)))
 
-  pub give-back-bad : is-plain-room p (A0 d) ≡ false → give-back p d ≡ refuse bad-parameter p d
-  unfolding give-back
+  pub give-back-bad : is-plain-room p (A0 d) ≡ false → outcome give-back p d ≡ refuse bad-parameter p d
+  unfolding give-back outcome
   give-back-bad h = rw h
 
-  pub give-back-done : is-plain-room p (A0 d) ≡ true → give-back p d ≡ succeed (given-back p (A0 d)) (cleared d)
-  unfolding give-back
+  pub give-back-done : is-plain-room p (A0 d) ≡ true → outcome give-back p d ≡ succeed (given-back p (A0 d)) (cleared d)
+  unfolding give-back outcome
   give-back-done h = rw h
 
 -- a length that can be taken is small

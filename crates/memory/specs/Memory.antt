@@ -1,25 +1,29 @@
 -- Document 01: the calls $6, $18 and $19.
 use Prim.Native.Nat.{ℕ, _-_, _/_}
-use mathlib.Core.Bool.{Bool, _&&_, cond}
-use mathlib.Core.List.{List}
+use mathlib.Core.Bool.{Bool, _&&_}
+use mathlib.Core.List.{List, [], _∷_}
 use lib.Dec.{leb, ltb, eqb}
 use Rattle.words.specs.Each.{any}
 use Rattle.picture.specs.Layout.{from, upto}
-use Rattle.picture.specs.Numbers.{live}
-use Rattle.picture.specs.Keys.{invalid-job, out-of-memory, bad-parameter}
-use Rattle.picture.specs.declared.Table.the-variants.{Jobs}
+use Rattle.picture.specs.Numbers.{job-at}
+use Rattle.picture.specs.Keys.{bad-parameter}
 use Rattle.picture.specs.declared.Area.the-variants.{Heap, Transient}
 use Rattle.blocks.specs.Header.{kind, plain-kind}
 use Rattle.blocks.specs.Walk.{blocks}
 use Rattle.placing.specs.Place.{placed, longest}
 use Rattle.freeing.specs.Sweep.{swept}
-use Rattle.rooms.specs.Room.{block-length, spot, has-room, first-byte}
-use Rattle.calls.specs.Outcome.{Outcome, refuse, succeed}
+use Rattle.rooms.specs.Room.{block-length, spot, room-at, room-check, first-byte}
+use Rattle.calls.specs.Call.{Call}
+use Rattle.calls.specs.Found.{job-check}
 use Rattle.calls.specs.Registers.{D1, D2, A0, with-D1, with-A0, cleared, meant}
 
 -- "$6: D1 longest free transient block less 16, or 0; D2 to A3 become 0."
-unfoldable pub longest-room : List ℕ → List ℕ → Outcome
-longest-room p d = succeed p (with-D1 (longest p (from p Transient) (upto p Transient) - 16) (cleared d))
+unfoldable pub longest-room : Call
+longest-room p d = record {
+  checks = [];
+  picture = p;
+  registers = with-D1 (longest p (from p Transient) (upto p Transient) - 16) (cleared d);
+}
 
 -- "$18: D1 1 to 2^31 - 1"
 unfoldable pub length-good : ℕ → Bool
@@ -37,15 +41,15 @@ room-registers length i d = with-A0 (first-byte i) (with-D1 (length - 16) (clear
 unfoldable pub taken : List ℕ → List ℕ → List ℕ
 taken p d = placed p (spot p Heap (taken-length d)) (taken-length d) plain-kind (meant p (D2 d)) 0
 
-unfoldable pub take : List ℕ → List ℕ → Outcome
-take p d =
-    cond (length-good (D1 d))
-    (cond (live p Jobs (meant p (D2 d)))
-    (cond (has-room p Heap (taken-length d))
-    (succeed (taken p d) (room-registers (taken-length d) (spot p Heap (taken-length d)) d))
-    (refuse out-of-memory p d))
-    (refuse invalid-job p d))
-    (refuse bad-parameter p d)
+unfoldable pub take : Call
+take p d = record {
+  checks =
+      (length-good (D1 d), bad-parameter) ∷
+      job-check (job-at p (meant p (D2 d))) ∷
+      room-check (room-at p Heap (taken-length d)) ∷ [];
+  picture = taken p d;
+  registers = room-registers (taken-length d) (spot p Heap (taken-length d)) d;
+}
 
 -- "$19: A0 is the first byte after a plain block's header": of the block at i
 unfoldable pub plain-room : List ℕ → ℕ → ℕ → Bool
@@ -63,9 +67,10 @@ block-before a = a / 4 - 4
 unfoldable pub given-back : List ℕ → ℕ → List ℕ
 given-back p a = swept p (from p Heap) (upto p Heap) 0 (block-before a)
 
--- "D0 to A3 become 0"
-unfoldable pub give-back : List ℕ → List ℕ → Outcome
-give-back p d =
-    cond (is-plain-room p (A0 d))
-    (succeed (given-back p (A0 d)) (cleared d))
-    (refuse bad-parameter p d)
+-- "else -15. D0 to A3 become 0."
+unfoldable pub give-back : Call
+give-back p d = record {
+  checks = (is-plain-room p (A0 d), bad-parameter) ∷ [];
+  picture = given-back p (A0 d);
+  registers = cleared d;
+}

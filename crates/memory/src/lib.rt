@@ -14,6 +14,7 @@ ghost use Prim.Native.Nat.{_-_, _<_};
 ghost use Rattle.picture.specs.Layout.{greatest-size as greatestSize};
 ghost use Rattle.sound.specs.Sound.{sound};
 ghost use Rattle.calls.specs.Outcome.{Meets};
+ghost use Rattle.calls.specs.Call.{outcome};
 ghost use Rattle.calls.specs.Registers.{cleared};
 ghost use Rattle.memory.specs.Memory.{length-good as lengthGood, room-registers as roomRegisters, longest-room as longestRoom, take};
 ghost use Rattle.memory.specs.Memory.{plain-room as plainRoom, is-plain-room as isPlainRoom, block-before as blockBefore, give-back as giveBack};
@@ -37,7 +38,7 @@ pub fn room_of(length: u32) -> u32
 
 // $6: the longest free room of the transient area.
 pub fn longest_room(p: &mut [u32], d: &mut [u32]) -> i32
-    ensures { λ r. ⌜ Meets (longestRoom (now (p .entry)) (now (d .entry))) r (now (p .exit)) (now (d .exit)) ⌝ }
+    ensures { λ r. ⌜ Meets (outcome longestRoom (now (p .entry)) (now (d .entry))) r (now (p .exit)) (now (d .exit)) ⌝ }
 {
     let base = picture::area_from(p, Area::Transient);
     let e = picture::area_upto(p, Area::Transient);
@@ -67,7 +68,7 @@ pub fn answer_room(d: &mut [u32], length: u32, i: usize)
 // $18: takes heap space for an owner.
 pub fn take(p: &mut [u32], d: &mut [u32]) -> i32
     requires { ⌜ sound (now p) ≡ true ⌝ }
-    ensures { λ r. ⌜ Meets (take (now (p .entry)) (now (d .entry))) r (now (p .exit)) (now (d .exit)) ⌝ }
+    ensures { λ r. ⌜ Meets (outcome take (now (p .entry)) (now (d .entry))) r (now (p .exit)) (now (d .exit)) ⌝ }
 {
     let n = word(d, D1);
     if !is_length(n) {
@@ -121,7 +122,7 @@ pub fn block_before(a: u32) -> usize
 // $19: gives heap space back.
 pub fn give_back(p: &mut [u32], d: &mut [u32]) -> i32
     requires { ⌜ sound (now p) ≡ true ⌝ }
-    ensures { λ r. ⌜ Meets (giveBack (now (p .entry)) (now (d .entry))) r (now (p .exit)) (now (d .exit)) ⌝ }
+    ensures { λ r. ⌜ Meets (outcome giveBack (now (p .entry)) (now (d .entry))) r (now (p .exit)) (now (d .exit)) ⌝ }
 {
     let a = word(d, A0);
     if !is_plain_room(p, a) {

@@ -23,9 +23,11 @@ use Rattle.sound.specs.Sound.{sound}
 use Rattle.facts.proofs.Sound.{Sound}
 use Rattle.facts.proofs.View.{view, sound-again}
 use Rattle.facts.proofs.Ages.{Ages, ages-still}
-use Rattle.rooms.specs.Room.{block-length, spot, has-room, first-byte}
+use Rattle.rooms.specs.Room.{block-length, spot, first-byte}
+use Rattle.rooms.proofs.Room.{has-room}
 use Rattle.rooms.proofs.Sizes.{Lies, areas-lie-in-a-sound-picture}
 use Rattle.calls.specs.Outcome.{Outcome}
+use Rattle.calls.specs.Call.{outcome}
 use Rattle.calls.specs.Registers.{D1, D2, A0, meant}
 use Rattle.keeping.proofs.Tables.{TablesSame, lives-on, tables-age}
 use Rattle.keeping.proofs.Moved.{Fine}
@@ -109,28 +111,28 @@ module _ (p d : List ℕ) (h : sound p ≡ true) where
         (λ t i n. absurd n)
         (λ t i e k. plain-is-no-tables t (sym (a-plain-block .1) ∙ (rw e at k))))
 
-  pub take-sound : sound (take p d .picture) ≡ true
-  take-sound = take-ways (λ (o : Outcome). sound (o .picture) ≡ true) p d (λ a. h) (λ a b. h) (λ a b c. h) (λ a b c. taken-sound b c)
+  pub take-sound : sound (outcome take p d .picture) ≡ true
+  take-sound = take-ways (λ (o : Outcome). sound (o .picture) ≡ true) p d (λ k. h) (λ a b c. taken-sound b c)
 
-  pub give-back-sound : sound (give-back p d .picture) ≡ true
-  give-back-sound = give-back-ways (λ (o : Outcome). sound (o .picture) ≡ true) p d (λ a. h) (λ a. given-back-sound a)
+  pub give-back-sound : sound (outcome give-back p d .picture) ≡ true
+  give-back-sound = give-back-ways (λ (o : Outcome). sound (o .picture) ≡ true) p d (λ k. h) (λ a. given-back-sound a)
 
-pub longest-room-keeps-sound : (p d : List ℕ) → sound p ≡ true → sound (longest-room p d .picture) ≡ true
-unfolding longest-room
+pub longest-room-keeps-sound : (p d : List ℕ) → sound p ≡ true → sound (outcome longest-room p d .picture) ≡ true
+unfolding longest-room outcome
 longest-room-keeps-sound p d h = h
 
-pub take-keeps-sound : (p d : List ℕ) → sound p ≡ true → sound (take p d .picture) ≡ true
+pub take-keeps-sound : (p d : List ℕ) → sound p ≡ true → sound (outcome take p d .picture) ≡ true
 take-keeps-sound = take-sound
 
-pub give-back-keeps-sound : (p d : List ℕ) → sound p ≡ true → sound (give-back p d .picture) ≡ true
+pub give-back-keeps-sound : (p d : List ℕ) → sound p ≡ true → sound (outcome give-back p d .picture) ≡ true
 give-back-keeps-sound = give-back-sound
 
-pub longest-room-ages : (p d : List ℕ) → sound p ≡ true → (t : Table) → Ages p (longest-room p d .picture) t
-unfolding longest-room
+pub longest-room-ages : (p d : List ℕ) → sound p ≡ true → (t : Table) → Ages p (outcome longest-room p d .picture) t
+unfolding longest-room outcome
 longest-room-ages p d h t = ages-still p t
 
-pub take-ages : (p d : List ℕ) → sound p ≡ true → (t : Table) → Ages p (take p d .picture) t
-take-ages p d h t = take-ways (λ (o : Outcome). Ages p (o .picture) t) p d (λ a. ages-still p t) (λ a b. ages-still p t) (λ a b c. ages-still p t) (λ a b c. tables-age p (taken p d) (taken-tables p d h b c) t)
+pub take-ages : (p d : List ℕ) → sound p ≡ true → (t : Table) → Ages p (outcome take p d .picture) t
+take-ages p d h t = take-ways (λ (o : Outcome). Ages p (o .picture) t) p d (λ k. ages-still p t) (λ a b c. tables-age p (taken p d) (taken-tables p d h b c) t)
 
-pub give-back-ages : (p d : List ℕ) → sound p ≡ true → (t : Table) → Ages p (give-back p d .picture) t
-give-back-ages p d h t = give-back-ways (λ (o : Outcome). Ages p (o .picture) t) p d (λ a. ages-still p t) (λ a. tables-age p (given-back p (A0 d)) (given-back-tables p d h a) t)
+pub give-back-ages : (p d : List ℕ) → sound p ≡ true → (t : Table) → Ages p (outcome give-back p d .picture) t
+give-back-ages p d h t = give-back-ways (λ (o : Outcome). Ages p (o .picture) t) p d (λ k. ages-still p t) (λ a. tables-age p (given-back p (A0 d)) (given-back-tables p d h a) t)

@@ -8,6 +8,7 @@ use lib.IntN.{ℤ}
 use Rattle.words.specs.Each.{all}
 use Rattle.picture.specs.Keys.{done, not-found, bad-name, bad-parameter}
 use Rattle.areas.specs.Rules.{longest-queue}
+use Rattle.calls.specs.Call.{Check}
 use Rattle.names.specs.declared.Name.{Name}
 use Rattle.names.specs.declared.Name.the-variants.{Pipe, Foreign, Unnumbered, Bare}
 
@@ -24,6 +25,10 @@ good (Pipe n) = true
 good Foreign = false
 good Unnumbered = false
 good Bare = false
+
+-- the check of a name
+abbrev pub name-check : Name → Check
+name-check n = (good n, key-of n)
 
 -- the n of PIPE_n
 unfoldable pub number-in : Name → ℕ

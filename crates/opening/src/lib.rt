@@ -11,6 +11,7 @@ ghost use Prim.Native.Nat.{_<_, _≤_};
 ghost use Rattle.picture.specs.Layout.{greatest-tag as greatestTag, greatest-size as greatestSize};
 ghost use Rattle.sound.specs.Sound.{sound};
 ghost use Rattle.calls.specs.Outcome.{Meets};
+ghost use Rattle.calls.specs.Call.{outcome};
 ghost use Rattle.opening.specs.Effects.{channelled, channel-registers as channelRegisters};
 ghost use Rattle.opening.specs.Calls.{open-channel as openChannel};
 
@@ -34,7 +35,7 @@ pub fn answer_channel(d: &mut [u32], owner: u32, channel: u32)
 // Trap 2 $1: opens a channel.
 pub fn open_channel(p: &mut [u32], d: &mut [u32], name: &[u8]) -> i32
     requires { ⌜ sound (now p) ≡ true ⌝ }
-    ensures { λ r. ⌜ Meets (openChannel (now (p .entry)) (now (d .entry)) (now (name .entry))) r (now (p .exit)) (now (d .exit)) ⌝ }
+    ensures { λ r. ⌜ Meets (outcome (openChannel (now (name .entry))) (now (p .entry)) (now (d .entry))) r (now (p .exit)) (now (d .exit)) ⌝ }
 {
     let meant = calls::number_meant(p, word(d, calls::D1));
     let owner = meant.0;

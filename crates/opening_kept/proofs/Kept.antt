@@ -28,7 +28,8 @@ use Rattle.facts.proofs.Sound.{Sizes, Entries, Jobs-fine, Channels-fine, Sound}
 use Rattle.facts.proofs.View.{sound-again, claims-used}
 use Rattle.facts.proofs.Same.{used-same, claims-same, live-same, Lives, EntriesSame, entries-same}
 use Rattle.facts.proofs.Ages.{Ages, ages-same, ages-then}
-use Rattle.rooms.specs.Room.{has-room, header-byte}
+use Rattle.rooms.specs.Room.{header-byte}
+use Rattle.rooms.proofs.Room.{has-room}
 use Rattle.entering.specs.Entry.{has-position, has-tag, next-tag}
 use Rattle.entering_kept.proofs.Written.{Entered}
 use Rattle.entering_kept.proofs.Kept.{field-old, used-here, another, new-or-old, still-used, lives-in-both, entering-ages, entering-keeps-the-records}

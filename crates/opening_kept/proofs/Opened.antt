@@ -31,8 +31,8 @@ use Rattle.sound.specs.Sound.{sound}
 use Rattle.facts.proofs.Sound.{Sizes, Queue, Sound}
 use Rattle.facts.proofs.View.{view}
 use Rattle.facts.proofs.Same.{starts-between, within}
-use Rattle.rooms.specs.Room.{spot, has-room, header-byte}
-use Rattle.rooms.proofs.Room.{spot-is-free-and-enough}
+use Rattle.rooms.specs.Room.{spot, header-byte}
+use Rattle.rooms.proofs.Room.{has-room, spot-is-free-and-enough}
 use Rattle.rooms.proofs.Sizes.{Lies, areas-lie-in-a-sound-picture}
 use Rattle.entering.specs.Entry.{has-position, has-tag, next-tag, entered}
 use Rattle.entering_kept.proofs.Written.{Entered, entered-is, entering-keeps-the-areas, entered-after}

@@ -17,6 +17,7 @@ use Rattle.matching.proofs.Counts.{Own}
 use Rattle.sound.specs.Sound.{sound}
 use Rattle.facts.proofs.Sound.{Sound}
 use Rattle.calls.specs.Outcome.{Outcome}
+use Rattle.calls.specs.Call.{outcome}
 use Rattle.calls.specs.Registers.{D1, meant}
 use Rattle.keeping.proofs.Placing.{None, Only}
 use Rattle.keeping.proofs.Intact.{change-keeps-every-other-block}
@@ -35,8 +36,8 @@ use Rattle.opening_kept.proofs.Ways.{Checked, open-channel-ways}
 use Rattle.opening_kept.proofs.Opened as the
 use Rattle.opening_kept.proofs.Kept.{old, pair}
 
-pub open-channel-leaves-every-queue : (p d s : List ℕ) → sound p ≡ true → (m : ℕ) → live p Channels m ≡ true → bytes-at (open-channel p d s .picture) m ≡ bytes-at p m
-open-channel-leaves-every-queue p d s h m a = open-channel-ways (λ (o : Outcome). bytes-at (o .picture) m ≡ bytes-at p m) p d s (λ k r. refl)
+pub open-channel-leaves-every-queue : (p d s : List ℕ) → sound p ≡ true → (m : ℕ) → live p Channels m ≡ true → bytes-at (outcome (open-channel s) p d .picture) m ≡ bytes-at p m
+open-channel-leaves-every-queue p d s h m a = open-channel-ways (λ (o : Outcome). bytes-at (o .picture) m ≡ bytes-at p m) p d s (λ k. refl)
     (λ (c : Checked p d s).
     let o = meant p (D1 d) in
     let n = number-in (named s) in

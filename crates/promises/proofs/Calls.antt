@@ -1,4 +1,4 @@
--- What holds of every call's outcome, and of the refusal of an unknown call, holds of the call that a trap number and D0 name.
+-- What holds of what every call comes to, and of the refusal of an unknown call, holds of the call that a trap number and D0 name.
 use Prim.Native.Nat.{ℕ}
 use mathlib.Core.Path.{_≡_, refl}
 use mathlib.Core.Bool.{Bool, true, false, cond}
@@ -8,6 +8,7 @@ use borrow.Author.Tests.{eqb-true}
 use Rattle.words.specs.Words.{word}
 use Rattle.picture.specs.Keys.{bad-parameter}
 use Rattle.calls.specs.Outcome.{Outcome, refuse}
+use Rattle.calls.specs.Call.{Call, outcome}
 use Rattle.jobs.specs.Calls.{information, suspend, release, activate, set-priority}
 use Rattle.asking.specs.Ask.{ask}
 use Rattle.creating.specs.Create.{create}
@@ -15,47 +16,47 @@ use Rattle.ending.specs.Remove.{remove, force-remove}
 use Rattle.memory.specs.Memory.{longest-room, take, give-back}
 use Rattle.opening.specs.Calls.{open-channel}
 use Rattle.channels.specs.Calls.{close-channel, pending, fetch, send}
-use Rattle.manager.specs.Door.{among, calls-one, calls-two, calls-three, trap-one, trap-two, trap-three, traps, named}
+use Rattle.manager.specs.Door.{among, unknown, calls-one, calls-two, calls-three, trap-one, trap-two, trap-three, traps, named}
 
--- P holds of each outcome of a list where its number is n
-abbrev Behind : (Outcome → Type 0) → ℕ → List (ℕ × Outcome) → Type 0
+-- P holds of each call of a list where its number is n
+abbrev Behind : (Call → Type 0) → ℕ → List (ℕ × Call) → Type 0
 Behind P n [] = Unit {0}
 Behind P n (e ∷ l) = (n ≡ e .0 → P (e .1)) × Behind P n l
 
-among-by : (P : Outcome → Type 0) (n : ℕ) (l : List (ℕ × Outcome)) (o : Outcome) → Behind P n l → P o → P (among n l o)
-among-by P n [] o b r = r
-among-by P n (e ∷ l) o b r = go (eqb n (e .0)) refl (among-by P n l o (b .1) r)
+among-by : (P : Call → Type 0) (n : ℕ) (l : List (ℕ × Call)) (c : Call) → Behind P n l → P c → P (among n l c)
+among-by P n [] c b r = r
+among-by P n (e ∷ l) c b r = go (eqb n (e .0)) refl (among-by P n l c (b .1) r)
   where
-    go : (t : Bool) → eqb n (e .0) ≡ t → P (among n l o) → P (cond t (e .1) (among n l o))
+    go : (t : Bool) → eqb n (e .0) ≡ t → P (among n l c) → P (cond t (e .1) (among n l c))
     go true q z = b .0 (eqb-true n (e .0) q)
     go false q z = z
 
 -- P holds of each call; of the priority call where it is the one named
 pub record EachCall (trap : ℕ) (p d name : List ℕ) (P : Outcome → Type 0) : Type 0 where
-  pub informs : P (information p d)
-  pub creates : P (create p d)
-  pub asks : P (ask p d)
-  pub removes : P (remove p d)
-  pub forces : P (force-remove p d)
-  pub measures : P (longest-room p d)
-  pub suspends : P (suspend p d)
-  pub releases : P (release p d)
-  pub activates : P (activate p d)
-  pub prioritizes : trap ≡ 1 → word d 0 ≡ 11 → P (set-priority p d)
-  pub takes : P (take p d)
-  pub gives-back : P (give-back p d)
-  pub opens : P (open-channel p d name)
-  pub closes : P (close-channel p d)
-  pub pends : P (pending p d)
-  pub fetches : P (fetch p d)
-  pub sends : P (send p d)
+  pub informs : P (outcome information p d)
+  pub creates : P (outcome create p d)
+  pub asks : P (outcome ask p d)
+  pub removes : P (outcome remove p d)
+  pub forces : P (outcome force-remove p d)
+  pub measures : P (outcome longest-room p d)
+  pub suspends : P (outcome suspend p d)
+  pub releases : P (outcome release p d)
+  pub activates : P (outcome activate p d)
+  pub prioritizes : trap ≡ 1 → word d 0 ≡ 0xB → P (outcome set-priority p d)
+  pub takes : P (outcome take p d)
+  pub gives-back : P (outcome give-back p d)
+  pub opens : P (outcome (open-channel name) p d)
+  pub closes : P (outcome close-channel p d)
+  pub pends : P (outcome pending p d)
+  pub fetches : P (outcome fetch p d)
+  pub sends : P (outcome send p d)
   pub refuses : P (refuse bad-parameter p d)
 
-pub each-call : (P : Outcome → Type 0) (trap : ℕ) (p d name : List ℕ) → EachCall trap p d name P → P (named trap p d name)
-unfolding named trap-one trap-two trap-three
+pub each-call : (P : Outcome → Type 0) (trap : ℕ) (p d name : List ℕ) → EachCall trap p d name P → P (outcome (named trap name) p d)
+unfolding named trap-one trap-two trap-three outcome
 each-call P trap p d name c =
-    among-by P trap (traps p d name) (refuse bad-parameter p d) (
-      (λ t. among-by P (word d 0) (calls-one p d) (refuse bad-parameter p d) (
+    among-by Q trap (traps (word d 0) name) unknown (
+      (λ t. among-by Q (word d 0) calls-one unknown (
         (λ _. c .informs),
         (
           (λ _. c .creates),
@@ -76,11 +77,11 @@ each-call P trap p d name c =
       )
           (c .refuses)),
       (
-        (λ _. among-by P (word d 0) (calls-two p d name) (refuse bad-parameter p d) ((λ _. c .opens), ((λ _. c .closes), tt)) (c .refuses)),
-        (
-          (λ _. among-by P (word d 0) (calls-three p d) (refuse bad-parameter p d) ((λ _. c .pends), ((λ _. c .fetches), ((λ _. c .sends), tt))) (c .refuses)),
-          tt,
-        ),
+        (λ _. among-by Q (word d 0) (calls-two name) unknown ((λ _. c .opens), ((λ _. c .closes), tt)) (c .refuses)),
+        ((λ _. among-by Q (word d 0) calls-three unknown ((λ _. c .pends), ((λ _. c .fetches), ((λ _. c .sends), tt))) (c .refuses)), tt),
       ),
     )
     (c .refuses)
+  where
+    Q : Call → Type 0
+    Q x = P (outcome x p d)

@@ -25,13 +25,14 @@ use Rattle.sound.specs.Sound.{sound}
 use Rattle.facts.proofs.Sound.{Sizes, Sound}
 use Rattle.facts.proofs.View.{view}
 use Rattle.calls.specs.Outcome.{Outcome}
+use Rattle.calls.specs.Call.{outcome}
 use Rattle.calls.specs.Registers.{D1, D2, D3, A0, A1, caller, meant}
 use Rattle.calls.specs.Writes.{with-field, with-nobody}
 use Rattle.steady.proofs.Steady.{Steady, steady-used}
 use Rattle.steady.proofs.Writes.{field-kept, field-written, field-nobody, Written, written-none, written-field}
 use Rattle.effects.specs.Effects.{suspends, suspended, released, prioritized, endless, waiting}
 use Rattle.jobs.specs.Calls.{job, job-position, information, suspend, release, activate, set-priority}
-use Rattle.jobs.proofs.Refuses.{Way, suspend-success, release-success, activate-success, set-priority-success, suspend-way, release-way, activate-way, set-priority-way}
+use Rattle.jobs.proofs.Passed.{suspend-ways, release-ways, activate-ways, set-priority-ways}
 use Rattle.jobs_kept.proofs.Effects.{suspended-written, prioritized-written}
 use Rattle.asking.specs.Ask.{ask}
 use Rattle.asking.proofs.Call.{ask-leaves-the-picture}
@@ -49,51 +50,39 @@ use Rattle.turns.specs.Stretch.{Quiet, Stands}
 use Rattle.turns.proofs.Quiet.{nothing-is-quiet, quiet-after-quiet, kept-or-cleared-is-quiet, kept-is-quiet}
 
 -- the calls that leave the picture as it is
-pub information-is-quiet : (j : ℕ) (p d : List ℕ) → Quiet j p (information p d .picture)
-unfolding information
+pub information-is-quiet : (j : ℕ) (p d : List ℕ) → Quiet j p (outcome information p d .picture)
+unfolding information outcome
 information-is-quiet j p d = nothing-is-quiet j p
 
-pub ask-is-quiet : (j : ℕ) (p d : List ℕ) → Quiet j p (ask p d .picture)
+pub ask-is-quiet : (j : ℕ) (p d : List ℕ) → Quiet j p (outcome ask p d .picture)
 ask-is-quiet j p d = subst (λ (q : List ℕ). Quiet j p q) (sym (ask-leaves-the-picture p d)) (nothing-is-quiet j p)
 
-pub longest-room-is-quiet : (j : ℕ) (p d : List ℕ) → Quiet j p (longest-room p d .picture)
-unfolding longest-room
+pub longest-room-is-quiet : (j : ℕ) (p d : List ℕ) → Quiet j p (outcome longest-room p d .picture)
+unfolding longest-room outcome
 longest-room-is-quiet j p d = nothing-is-quiet j p
 
-pub pending-is-quiet : (j : ℕ) (p d : List ℕ) → Quiet j p (pending p d .picture)
-pending-is-quiet j p d = pending-ways (λ (o : Outcome). Quiet j p (o .picture)) p d (λ k r. nothing-is-quiet j p) (λ a b c. nothing-is-quiet j p)
+pub pending-is-quiet : (j : ℕ) (p d : List ℕ) → Quiet j p (outcome pending p d .picture)
+pending-is-quiet j p d = pending-ways (λ (o : Outcome). Quiet j p (o .picture)) p d (λ k. nothing-is-quiet j p) (nothing-is-quiet j p)
 
 -- the calls that leave the tables as they are
 tables-quiet : (j : ℕ) → j < positions Jobs → (p q : List ℕ) → TablesSame p q → Quiet j p q
 tables-quiet j l p q s = kept-or-cleared-is-quiet j p q (field-same p q s Jobs j 4 l (omega arith)) (λ i m ne. inl (field-same p q s Jobs i 4 m (omega arith)))
 
-pub take-is-quiet : (j : ℕ) → j < positions Jobs → (p d : List ℕ) → sound p ≡ true → Quiet j p (take p d .picture)
-take-is-quiet j l p d h =
-    let still = nothing-is-quiet j p in
-    take-ways (λ (o : Outcome). Quiet j p (o .picture)) p d (λ a. still) (λ a b. still) (λ a b c. still) (λ a b c. tables-quiet j l p (taken p d) (taken-tables p d h b c))
+pub take-is-quiet : (j : ℕ) → j < positions Jobs → (p d : List ℕ) → sound p ≡ true → Quiet j p (outcome take p d .picture)
+take-is-quiet j l p d h = take-ways (λ (o : Outcome). Quiet j p (o .picture)) p d (λ k. nothing-is-quiet j p) (λ a b c. tables-quiet j l p (taken p d) (taken-tables p d h b c))
 
-pub give-back-is-quiet : (j : ℕ) → j < positions Jobs → (p d : List ℕ) → sound p ≡ true → Quiet j p (give-back p d .picture)
-give-back-is-quiet j l p d h = give-back-ways (λ (o : Outcome). Quiet j p (o .picture)) p d (λ a. nothing-is-quiet j p) (λ a. tables-quiet j l p (given-back p (A0 d)) (given-back-tables p d h a))
+pub give-back-is-quiet : (j : ℕ) → j < positions Jobs → (p d : List ℕ) → sound p ≡ true → Quiet j p (outcome give-back p d .picture)
+give-back-is-quiet j l p d h = give-back-ways (λ (o : Outcome). Quiet j p (o .picture)) p d (λ k. nothing-is-quiet j p) (λ a. tables-quiet j l p (given-back p (A0 d)) (given-back-tables p d h a))
 
-pub fetch-is-quiet : (j : ℕ) → j < positions Jobs → (p d : List ℕ) → sound p ≡ true → Quiet j p (fetch p d .picture)
-fetch-is-quiet j l p d s = fetch-ways (λ (o : Outcome). Quiet j p (o .picture)) p d (λ k r. nothing-is-quiet j p)
+pub fetch-is-quiet : (j : ℕ) → j < positions Jobs → (p d : List ℕ) → sound p ≡ true → Quiet j p (outcome fetch p d .picture)
+fetch-is-quiet j l p d s = fetch-ways (λ (o : Outcome). Quiet j p (o .picture)) p d (λ k. nothing-is-quiet j p)
     (λ a b c. let H = live-queue p (A0 d) s a in
     tables-quiet j l p (fetched p (queue-named p d)) (tables p (fetched p (queue-named p d)) (position (A0 d)) (queue-named p d) (view p s) H (fetched-written p (position (A0 d)) (queue-named p d) H c)))
 
-pub send-is-quiet : (j : ℕ) → j < positions Jobs → (p d : List ℕ) → sound p ≡ true → Quiet j p (send p d .picture)
-send-is-quiet j l p d s = send-ways (λ (o : Outcome). Quiet j p (o .picture)) p d (λ k r. nothing-is-quiet j p)
+pub send-is-quiet : (j : ℕ) → j < positions Jobs → (p d : List ℕ) → sound p ≡ true → Quiet j p (outcome send p d .picture)
+send-is-quiet j l p d s = send-ways (λ (o : Outcome). Quiet j p (o .picture)) p d (λ k. nothing-is-quiet j p)
     (λ a b c. let H = live-queue p (A0 d) s a in
     tables-quiet j l p (sent p (queue-named p d) (D1 d % 256)) (tables p (sent p (queue-named p d) (D1 d % 256)) (position (A0 d)) (queue-named p d) (view p s) H (sent-written p (position (A0 d)) (queue-named p d) H (D1 d % 256) (low-byte (D1 d)) c)))
-
--- a call is quiet if its success is
-abbrev Picture : Outcome → List ℕ
-Picture o = o .picture
-
-way-quiet : (j : ℕ) (p d : List ℕ) (x o : Outcome) (C : Type 0) → Way p d x o C → (o ≡ x → C → Quiet j p (Picture x)) → Quiet j p (Picture o)
-way-quiet j p d x o C w s = ⊎-elim
-    (λ r. subst (λ (q : List ℕ). Quiet j p q) (sym (r .0)) (nothing-is-quiet j p))
-    (λ z. subst (λ (y : Outcome). Quiet j p (Picture y)) (sym (z .0)) (s (z .0) (z .1)))
-    w
 
 -- nobody becomes current
 nobody-quiet : (j : ℕ) (p q : List ℕ) → Quiet j p q → Quiet j p (with-nobody q)
@@ -136,10 +125,9 @@ module _ (p : List ℕ) (k : ℕ) where
           ∙ field-kept r1 i k 4 6 0 (omega arith) (omega arith) (λ e. omega arith)
           ∙ field-kept p i k 4 5 0 (omega arith) (omega arith) (λ e. omega arith)
 
-pub release-is-quiet : (j : ℕ) → j < positions Jobs → (p d : List ℕ) → sound p ≡ true → Quiet j p (release p d .picture)
-release-is-quiet j l p d h =
-    way-quiet j p d (release-success p d) (release p d) _ (release-way p d) (λ e z.
-    nobody-quiet j p (released p (job-position p d)) (kept-is-quiet j p (released p (job-position p d)) (released-accumulated p (job-position p d))))
+pub release-is-quiet : (j : ℕ) → j < positions Jobs → (p d : List ℕ) → sound p ≡ true → Quiet j p (outcome release p d .picture)
+release-is-quiet j l p d h = release-ways (λ (o : Outcome). Quiet j p (o .picture)) p d (λ k. nothing-is-quiet j p)
+    (λ _. nobody-quiet j p (released p (job-position p d)) (kept-is-quiet j p (released p (job-position p d)) (released-accumulated p (job-position p d))))
 
 -- $8: the job suspended has a timeout, so it isn't the one that is ready after
 suspends-some : (z : ℤ) → suspends (timeout-of z) ≡ true → longword (timeout-of z) ≡ 0 → ⊥
@@ -202,20 +190,17 @@ module _ (p : List ℕ) (S : Sound p) (k : ℕ) (u : used p Jobs k ≡ true) whe
   prioritized-quiet : (j v : ℕ) → (j ≡ k → ⊥) → Quiet j p (prioritized p k v)
   prioritized-quiet j v ne = record-quiet j k p (prioritized p k v) (prioritized-written p S k u v) (prioritized-nought v) ne
 
-pub suspend-is-quiet : (n j g : ℕ) → j < positions Jobs → (p d : List ℕ) → sound p ≡ true → Stands n j g (suspend p d .picture) → Quiet j p (suspend p d .picture)
-suspend-is-quiet n j g l p d h s =
-    way-quiet j p d (suspend-success p d) (suspend p d) _ (suspend-way p d) (λ e z.
+pub suspend-is-quiet : (n j g : ℕ) → j < positions Jobs → (p d : List ℕ) → sound p ≡ true → Stands n j g (outcome suspend p d .picture) → Quiet j p (outcome suspend p d .picture)
+suspend-is-quiet n j g l p d h = suspend-ways (λ (o : Outcome). Stands n j g (o .picture) → Quiet j p (o .picture)) p d (λ k _. nothing-is-quiet j p) (λ lives good s.
     let t = longword (timeout-in (D3 d)) in
     nobody-quiet j p (suspended p (job-position p d) t)
-    (suspended-quiet p (view p h) (job-position p d) (live-is p Jobs (job p d) (z .0) .used) t n j g
-    (suspends-some (low-half (D3 d)) (both (suspends (timeout-in (D3 d))) (eqb (A1 d) 0) (z .1 .0) .0))
-    (subst (λ (y : Outcome). Stands n j g (Picture y)) e s)))
+    (suspended-quiet p (view p h) (job-position p d) (live-is p Jobs (job p d) lives .used) t n j g
+    (suspends-some (low-half (D3 d)) (both (suspends (timeout-in (D3 d))) (eqb (A1 d) 0) good .0)) s))
 
 -- $B: the job named has another number
-pub set-priority-is-quiet : (n j g : ℕ) → j < positions Jobs → (p d : List ℕ) → sound p ≡ true → Stands n j g p → (meant p (D1 d) ≡ n → ⊥) → Quiet j p (set-priority p d .picture)
-set-priority-is-quiet n j g l p d h s other =
-    way-quiet j p d (set-priority-success p d) (set-priority p d) _ (set-priority-way p d) (λ e z.
-    let L = live-is p Jobs (job p d) (z .0) in
+pub set-priority-is-quiet : (n j g : ℕ) → j < positions Jobs → (p d : List ℕ) → sound p ≡ true → Stands n j g p → (meant p (D1 d) ≡ n → ⊥) → Quiet j p (outcome set-priority p d .picture)
+set-priority-is-quiet n j g l p d h s other = set-priority-ways (λ (o : Outcome). Quiet j p (o .picture)) p d (λ k. nothing-is-quiet j p) (λ lives _.
+    let L = live-is p Jobs (job p d) lives in
     let v = D2 d % 256 in
     nobody-quiet j p (prioritized p (job-position p d) v)
     (prioritized-quiet p (view p h) (job-position p d) (L .used) j v (λ y. other (sym (L .names) ∙ ap (number p Jobs) (sym y) ∙ s .names))))
@@ -288,9 +273,8 @@ module _ (p : List ℕ) (S : Sound p) (m v : ℕ) (lives : live p Jobs m ≡ tru
       go true s = quiet-after-quiet j p q c3 raised-quiet (record-quiet j c q c3 waits-written c-nought (not-caller s))
       go false s = raised-quiet
 
-pub activate-is-quiet : (n j g : ℕ) → j < positions Jobs → (p d : List ℕ) → sound p ≡ true → (caller p ≡ nobody → ⊥) → Stands n j g p → Stands n j g (activate p d .picture) → Quiet j p (activate p d .picture)
-activate-is-quiet n j g l p d h someone before after =
-    way-quiet j p d (activate-success p d) (activate p d) _ (activate-way p d) (λ e z.
+pub activate-is-quiet : (n j g : ℕ) → j < positions Jobs → (p d : List ℕ) → sound p ≡ true → (caller p ≡ nobody → ⊥) → Stands n j g p → Stands n j g (outcome activate p d .picture) → Quiet j p (outcome activate p d .picture)
+activate-is-quiet n j g l p d h someone before =
+    activate-ways (λ (o : Outcome). Stands n j g (o .picture) → Quiet j p (o .picture)) p d (λ k _. nothing-is-quiet j p) (λ lives idle _ _ after.
     nobody-quiet j p (waiting (prioritized p (job-position p d) (D2 d % 256)) (timeout-in (D3 d)) (position (caller p)) (job p d))
-    (activated-quiet p (view p h) (job p d) (D2 d % 256) (z .0) (z .1 .0) someone n j g before (timeout-in (D3 d))
-    (subst (λ (y : Outcome). Stands n j g (Picture y)) e after)))
+    (activated-quiet p (view p h) (job p d) (D2 d % 256) lives idle someone n j g before (timeout-in (D3 d)) after))

@@ -1,16 +1,18 @@
 -- Demands 1 and 2, of one call.
 use Prim.Native.Nat.{ℕ}
 use mathlib.Core.Path.{_≡_, refl, sym, ap, _∙_}
-use mathlib.Core.Bool.{Bool, true, false, cond}
+use mathlib.Core.Bool.{Bool, true, false, not, cond}
 use mathlib.Core.List.{List}
 use lib.ListN.{length}
 use lib.Dec.{eqb}
 use borrow.Author.Tests.{eqb-true, eqb-false, eq-eqb, ne-eqb}
 use Rattle.picture.specs.Layout.{nobody}
-use Rattle.picture.specs.Keys.{done, invalid-job, bad-parameter, not-sound}
+use Rattle.picture.specs.Keys.{invalid-job, bad-parameter, not-sound}
 use Rattle.sound.specs.Sound.{sound}
 use Rattle.calls.specs.Outcome.{Outcome, refuse, Meets}
+use Rattle.calls.specs.Call.{outcome}
 use Rattle.calls.specs.Registers.{caller}
+use Rattle.calls.proofs.Call.{refusal-changes-nothing}
 use Rattle.manager.specs.Door.{named, checked, with-key, called}
 use Rattle.manager.specs.Turn.{pick-picture, ticking}
 use Rattle.turns.specs.Pick.{picked}
@@ -20,59 +22,28 @@ use Rattle.turned.proofs.Tick.{tick-keeps-sound}
 use Rattle.manager.proofs.Door.{checked-unsound, called-otherwise, called-with-eight}
 use Rattle.promises.specs.Door.{OnlyKeyWritten, RefusalWritesOnlyD0, OtherRegistersRefused, Unsound, UnsoundIsRefused, CallKeepsSound, PickKeepsSound, TickKeepsSound, Same, WhateverMeetsIsEqual}
 use Rattle.promises.proofs.Calls.{EachCall, each-call}
-use Rattle.jobs.proofs.Refuses.{information-refuses, suspend-refuses, release-refuses, activate-refuses, set-priority-refuses}
-use Rattle.asking.proofs.Call.{ask-refuses, ask-keeps-sound}
-use Rattle.creating_kept.proofs.Refuses.{create-refuses}
+use Rattle.asking.proofs.Call.{ask-keeps-sound}
 use Rattle.creating_kept.proofs.Kept.{create-keeps-sound}
-use Rattle.ended.proofs.Calls.{remove-refuses, force-remove-refuses, remove-keeps-sound, force-remove-keeps-sound}
-use Rattle.memory_kept.proofs.Refuses.{longest-room-refuses, take-refuses, give-back-refuses}
+use Rattle.ended.proofs.Calls.{remove-keeps-sound, force-remove-keeps-sound}
 use Rattle.memory_kept.proofs.Kept.{longest-room-keeps-sound, take-keeps-sound, give-back-keeps-sound}
 use Rattle.jobs_kept.proofs.Kept.{information-keeps-sound, suspend-keeps-sound, release-keeps-sound, activate-keeps-sound, set-priority-keeps-sound}
-use Rattle.opening_kept.proofs.Ways.{open-channel-refuses}
 use Rattle.opening_kept.proofs.Open.{open-channel-keeps-sound}
-use Rattle.channels_kept.proofs.Close.{close-channel-refuses, close-channel-keeps-sound}
-use Rattle.queues_kept.proofs.Ways.{pending-refuses, fetch-refuses, send-refuses}
+use Rattle.channels_kept.proofs.Close.{close-channel-keeps-sound}
 use Rattle.queues_kept.proofs.Kept.{pending-keeps-sound, fetch-keeps-sound, send-keeps-sound}
 
 -- the checks before a call
 module _ (trap : ℕ) (p d name : List ℕ) where
   -- what holds of every refusal and of the call named holds of the checked call
-  pub checked-by : (P : Outcome → Type 0) → P (refuse not-sound p d) → P (refuse invalid-job p d) → (sound p ≡ true → (caller p ≡ nobody → ⊥) → P (named trap p d name)) → P (checked trap p d name)
-  unfolding checked
+  pub checked-by : (P : Outcome → Type 0) → P (refuse not-sound p d) → P (refuse invalid-job p d) → (sound p ≡ true → (caller p ≡ nobody → ⊥) → P (outcome (named trap name) p d)) → P (outcome (checked trap name) p d)
+  unfolding checked outcome
   checked-by P a b c = go (sound p) refl (eqb (caller p) nobody) refl
     where
-      go : (s : Bool) → sound p ≡ s → (n : Bool) → eqb (caller p) nobody ≡ n → P (cond s (cond n (refuse invalid-job p d) (named trap p d name)) (refuse not-sound p d))
+      go : (s : Bool) → sound p ≡ s → (n : Bool) → eqb (caller p) nobody ≡ n → P (cond s (cond (not n) (outcome (named trap name) p d) (refuse invalid-job p d)) (refuse not-sound p d))
       go true s true n = b
       go true s false n = c s (eqb-false (caller p) nobody n)
       go false s n m = a
 
-  -- a refusal leaves picture and registers
-  abbrev Leaves : Outcome → Type 0
-  Leaves o = (o .key ≡ done → ⊥) → (o .picture ≡ p) × (o .registers ≡ d)
-
-  checked-leaves : Leaves (checked trap p d name)
-  checked-leaves = checked-by Leaves (λ _. (refl, refl)) (λ _. (refl, refl)) (λ s n. each-call Leaves trap p d name (record {
-    informs = information-refuses p d;
-    creates = create-refuses p d;
-    asks = ask-refuses p d;
-    removes = remove-refuses p d;
-    forces = force-remove-refuses p d;
-    measures = longest-room-refuses p d;
-    suspends = suspend-refuses p d;
-    releases = release-refuses p d;
-    activates = activate-refuses p d;
-    prioritizes = λ _ _. set-priority-refuses p d;
-    takes = take-refuses p d;
-    gives-back = give-back-refuses p d;
-    opens = open-channel-refuses p d name;
-    closes = close-channel-refuses p d;
-    pends = pending-refuses p d;
-    fetches = fetch-refuses p d;
-    sends = send-refuses p d;
-    refuses = λ _. (refl, refl);
-  }))
-
-  checked-keeps-sound : sound p ≡ true → sound (checked trap p d name .picture) ≡ true
+  checked-keeps-sound : sound p ≡ true → sound (outcome (checked trap name) p d .picture) ≡ true
   checked-keeps-sound s = checked-by (λ (o : Outcome). sound (o .picture) ≡ true) s s (λ _ n. each-call (λ (o : Outcome). sound (o .picture) ≡ true) trap p d name (record {
     informs = information-keeps-sound p d s;
     creates = create-keeps-sound p d s;
@@ -98,7 +69,7 @@ module _ (trap : ℕ) (p d name : List ℕ) where
 pub refusal-writes-only-D0 : RefusalWritesOnlyD0
 refusal-writes-only-D0 trap p d name e n =
     let c = called-with-eight trap p d name e in
-    let l = checked-leaves trap p d name (λ z. n (ap (λ (o : Outcome). o .key) c ∙ z)) in
+    let l = refusal-changes-nothing (checked trap name) p d (λ z. n (ap (λ (o : Outcome). o .key) c ∙ z)) in
     rw c (record { picture = l .0; registers = rw (l .1) })
 
 pub other-registers-refused : OtherRegistersRefused
@@ -114,7 +85,7 @@ pub call-keeps-sound : CallKeepsSound
 unfolding called
 call-keeps-sound trap p d name s = go (eqb (length d) 8)
   where
-    go : (b : Bool) → sound (cond b (with-key (checked trap p d name)) (refuse bad-parameter p d) .picture) ≡ true
+    go : (b : Bool) → sound (cond b (with-key (outcome (checked trap name) p d)) (refuse bad-parameter p d) .picture) ≡ true
     go true = checked-keeps-sound trap p d name s
     go false = s
 

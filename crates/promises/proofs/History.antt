@@ -22,6 +22,7 @@ use Rattle.fresh.specs.Fresh.{fresh, fresh-good}
 use Rattle.fresh.proofs.Good.{sizes}
 use Rattle.fresh.proofs.Sound.{fresh-is-sound}
 use Rattle.calls.specs.Outcome.{Outcome, refuse}
+use Rattle.calls.specs.Call.{outcome}
 use Rattle.manager.specs.Door.{named, checked, with-key, called}
 use Rattle.manager.specs.Turn.{pick-picture, ticking}
 use Rattle.turned.proofs.Pick.{pick-ages}
@@ -56,7 +57,7 @@ always-sound n h g events = run-keeps-sound events (fresh n h) (fresh-is-sound n
 abbrev Aged : List ℕ → Outcome → Type 0
 Aged p o = (t : Table) → Ages p (o .picture) t
 
-checked-ages : (n : ℕ) (p d name : List ℕ) → sound p ≡ true → Aged p (checked n p d name)
+checked-ages : (n : ℕ) (p d name : List ℕ) → sound p ≡ true → Aged p (outcome (checked n name) p d)
 checked-ages n p d name s = checked-by n p d name (Aged p) (ages-still p) (ages-still p) (λ _ _. each-call (Aged p) n p d name (record {
   informs = information-ages p d s;
   creates = create-ages p d s;
@@ -82,7 +83,7 @@ called-ages : (n : ℕ) (p d name : List ℕ) → sound p ≡ true → (t : Tabl
 unfolding called
 called-ages n p d name s t = go (eqb (length d) 8)
   where
-    go : (b : Bool) → Ages p (cond b (with-key (checked n p d name)) (refuse bad-parameter p d) .picture) t
+    go : (b : Bool) → Ages p (cond b (with-key (outcome (checked n name) p d)) (refuse bad-parameter p d) .picture) t
     go true = checked-ages n p d name s t
     go false = ages-still p t
 

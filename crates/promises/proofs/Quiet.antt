@@ -10,6 +10,7 @@ use Rattle.picture.specs.Keys.{bad-parameter}
 use Rattle.picture.specs.declared.Table.the-variants.{Jobs}
 use Rattle.sound.specs.Sound.{sound}
 use Rattle.calls.specs.Outcome.{Outcome, refuse}
+use Rattle.calls.specs.Call.{outcome}
 use Rattle.manager.specs.Door.{named, checked, with-key, called}
 use Rattle.turns.specs.Stretch.{Stands, Quiet}
 use Rattle.turns.proofs.Quiet.{nothing-is-quiet}
@@ -25,7 +26,7 @@ module _ (n j g : ℕ) (l : j < positions Jobs) (t : ℕ) (p d name : List ℕ) 
   abbrev Spares : Outcome → Type 0
   Spares o = Stands n j g (o .picture) → Quiet j p (o .picture)
 
-  checked-spares : Spares (checked t p d name)
+  checked-spares : Spares (outcome (checked t name) p d)
   checked-spares = checked-by t p d name Spares (λ _. nothing-is-quiet j p) (λ _. nothing-is-quiet j p) (λ _ c. each-call Spares t p d name (record {
     informs = λ _. information-is-quiet j p d;
     creates = λ _. create-is-quiet n j g l p d s here;
@@ -51,6 +52,6 @@ module _ (n j g : ℕ) (l : j < positions Jobs) (t : ℕ) (p d name : List ℕ) 
   unfolding called
   call-is-quiet = go (eqb (length d) 8)
     where
-      go : (b : Bool) → Spares (cond b (with-key (checked t p d name)) (refuse bad-parameter p d))
+      go : (b : Bool) → Spares (cond b (with-key (outcome (checked t name) p d)) (refuse bad-parameter p d))
       go true = checked-spares
       go false = λ _. nothing-is-quiet j p

@@ -1,6 +1,6 @@
 -- Creating and ending jobs, opening and closing channels: quiet for every job that stands.
 use Prim.Native.Nat.{ℕ, _+_, _≤_, _<_}
-use mathlib.Core.Path.{_≡_, refl, sym, ap, _∙_, subst}
+use mathlib.Core.Path.{_≡_, refl, sym, ap, _∙_}
 use mathlib.Core.Bool.{Bool, true, false}
 use mathlib.Core.Logic.{⊎-elim, _⊎_, inl, inr}
 use mathlib.Core.List.{List}
@@ -20,7 +20,8 @@ use Rattle.facts.proofs.Sound.{Sizes, Sound}
 use Rattle.facts.proofs.View.{view}
 use Rattle.rooms.specs.Room.{header-byte}
 use Rattle.rooms.proofs.Sizes.{areas-lie-in-a-sound-picture}
-use Rattle.calls.specs.Outcome.{Outcome, refuse}
+use Rattle.calls.specs.Outcome.{Outcome}
+use Rattle.calls.specs.Call.{outcome}
 use Rattle.calls.specs.Registers.{A0, D1, D3, meant}
 use Rattle.keeping.proofs.Tables.{TablesSame}
 use Rattle.keeping.proofs.Freeing.{giving-back-keeps-the-tables}
@@ -66,13 +67,13 @@ closed-keeps p n s l i m =
     let F : Forgotten (swept p (from p Heap) (upto p Heap) 0 (queue-of p (position n))) (closed p (position n)) Channels (position n) = forgotten-is (swept p (from p Heap) (upto p Heap) 0 (queue-of p (position n))) Channels (position n) (live-below p n l) w in
     F .other (slot Jobs i + 4) (inl (omega arith)) (λ e. omega arith) ∙ B .words (slot Jobs i + 4) (omega arith)
 
-pub close-channel-is-quiet : (j : ℕ) → j < positions Jobs → (p d : List ℕ) → sound p ≡ true → Quiet j p (close-channel p d .picture)
-close-channel-is-quiet j l p d s = close-channel-ways (λ (o : Outcome). Quiet j p (o .picture)) p d (nothing-is-quiet j p)
+pub close-channel-is-quiet : (j : ℕ) → j < positions Jobs → (p d : List ℕ) → sound p ≡ true → Quiet j p (outcome close-channel p d .picture)
+close-channel-is-quiet j l p d s = close-channel-ways (λ (o : Outcome). Quiet j p (o .picture)) p d (λ k. nothing-is-quiet j p)
     (λ a. kept-below-is-quiet j l p (closed p (position (A0 d))) (closed-keeps p (A0 d) s a))
 
 -- a channel is opened: the jobs' records are the same
-pub open-channel-is-quiet : (j : ℕ) → j < positions Jobs → (p d name : List ℕ) → sound p ≡ true → Quiet j p (open-channel p d name .picture)
-open-channel-is-quiet j l p d name s = open-channel-ways (λ (o : Outcome). Quiet j p (o .picture)) p d name (λ k r. nothing-is-quiet j p)
+pub open-channel-is-quiet : (j : ℕ) → j < positions Jobs → (p d name : List ℕ) → sound p ≡ true → Quiet j p (outcome (open-channel name) p d .picture)
+open-channel-is-quiet j l p d name s = open-channel-ways (λ (o : Outcome). Quiet j p (o .picture)) p d name (λ k. nothing-is-quiet j p)
     (λ (c : Checked p d name). kept-below-is-quiet j l p (opened p (meant p (D1 d)) (number-in (named name)))
     (λ i m. jobs-same p (meant p (D1 d)) (number-in (named name)) s (c .place) (c .tagged) (c .room) .fields i 4 m (omega arith)))
 
@@ -102,8 +103,8 @@ module _ (p d : List ℕ) (s : sound p ≡ true) (c : creating.Checked p d) wher
       let m : j ≡ k → ⊥ = λ e. false-true (sym (the.place-vacant p d s c) ∙ ap (used p Jobs) (sym e) ∙ u) in
       record { own = omega (arith, created-keeps j l m); others = λ i x ne. created-gains-nothing i x }
 
-pub create-is-quiet : (n j g : ℕ) → j < positions Jobs → (p d : List ℕ) → sound p ≡ true → Stands n j g p → Quiet j p (create p d .picture)
-create-is-quiet n j g l p d s st = creating.create-ways (λ (o : Outcome). Quiet j p (o .picture)) p d (nothing-is-quiet j p) (nothing-is-quiet j p) (nothing-is-quiet j p)
+pub create-is-quiet : (n j g : ℕ) → j < positions Jobs → (p d : List ℕ) → sound p ≡ true → Stands n j g p → Quiet j p (outcome create p d .picture)
+create-is-quiet n j g l p d s st = creating.create-ways (λ (o : Outcome). Quiet j p (o .picture)) p d (λ k. nothing-is-quiet j p)
     (λ c. created-is-quiet p d s c n j g l st)
 
 -- a tree is ended: its records are 0, and the others keep their accumulated
@@ -134,13 +135,10 @@ module _ (p : List ℕ) (s : sound p ≡ true) (t key : ℕ) (u : used p Jobs t 
     others = λ i x ne. ended-gains-nothing i x;
   }
 
-refused-is-quiet : (n j g : ℕ) (p d : List ℕ) (o : Outcome) → o ≡ refuse (o .key) p d → Stands n j g (o .picture) → Quiet j p (o .picture)
-refused-is-quiet n j g p d o e st = subst (λ (x : List ℕ). Quiet j p x) (sym (ap (λ (x : Outcome). x .picture) e)) (nothing-is-quiet j p)
-
-pub remove-is-quiet : (n j g : ℕ) → j < positions Jobs → (p d : List ℕ) → sound p ≡ true → Stands n j g (remove p d .picture) → Quiet j p (remove p d .picture)
-remove-is-quiet n j g l p d s = of-remove p d (λ (o : Outcome). Stands n j g (o .picture) → Quiet j p (o .picture)) (refused-is-quiet n j g p d)
+pub remove-is-quiet : (n j g : ℕ) → j < positions Jobs → (p d : List ℕ) → sound p ≡ true → Stands n j g (outcome remove p d .picture) → Quiet j p (outcome remove p d .picture)
+remove-is-quiet n j g l p d s = of-remove p d (λ (o : Outcome). Stands n j g (o .picture) → Quiet j p (o .picture)) (λ k _. nothing-is-quiet j p)
     (λ u z. ended-is-quiet p s (asked p d) (D3 d) u z n j g l)
 
-pub force-remove-is-quiet : (n j g : ℕ) → j < positions Jobs → (p d : List ℕ) → sound p ≡ true → Stands n j g (force-remove p d .picture) → Quiet j p (force-remove p d .picture)
-force-remove-is-quiet n j g l p d s = of-force-remove p d (λ (o : Outcome). Stands n j g (o .picture) → Quiet j p (o .picture)) (refused-is-quiet n j g p d)
+pub force-remove-is-quiet : (n j g : ℕ) → j < positions Jobs → (p d : List ℕ) → sound p ≡ true → Stands n j g (outcome force-remove p d .picture) → Quiet j p (outcome force-remove p d .picture)
+force-remove-is-quiet n j g l p d s = of-force-remove p d (λ (o : Outcome). Stands n j g (o .picture) → Quiet j p (o .picture)) (λ k _. nothing-is-quiet j p)
     (λ u z. ended-is-quiet p s (asked p d) (D3 d) u z n j g l)

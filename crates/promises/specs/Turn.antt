@@ -20,7 +20,7 @@ abbrev pub priority-trap : ℕ
 priority-trap = 1
 
 abbrev pub priority-code : ℕ
-priority-code = 11
+priority-code = 0xB
 
 -- the event is no priority call that names the job with number n: in D1 itself, or as the current job by bit 15
 abbrev pub Unnamed : ℕ → List ℕ → Event → Type 0

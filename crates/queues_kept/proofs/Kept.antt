@@ -16,6 +16,7 @@ use Rattle.facts.proofs.Sound.{Queue, Sound}
 use Rattle.facts.proofs.View.{view, sound-again}
 use Rattle.facts.proofs.Ages.{Ages, ages-still}
 use Rattle.calls.specs.Outcome.{Outcome}
+use Rattle.calls.specs.Call.{outcome}
 use Rattle.calls.specs.Registers.{D1, A0}
 use Rattle.keeping.proofs.Tables.{tables-age}
 use Rattle.queues.specs.Bytes.{byte-word}
@@ -80,29 +81,29 @@ pub low-byte : (n : ℕ) → n % 256 < 256
 low-byte n = omega arith
 
 -- sound in, sound out
-pub pending-keeps-sound : (p d : List ℕ) → sound p ≡ true → sound (pending p d .picture) ≡ true
-pending-keeps-sound p d s = pending-ways (λ (o : Outcome). sound (o .picture) ≡ true) p d (λ k r. s) (λ a b c. s)
+pub pending-keeps-sound : (p d : List ℕ) → sound p ≡ true → sound (outcome pending p d .picture) ≡ true
+pending-keeps-sound p d s = pending-ways (λ (o : Outcome). sound (o .picture) ≡ true) p d (λ k. s) s
 
-pub fetch-keeps-sound : (p d : List ℕ) → sound p ≡ true → sound (fetch p d .picture) ≡ true
-fetch-keeps-sound p d s = fetch-ways (λ (o : Outcome). sound (o .picture) ≡ true) p d (λ k r. s)
+pub fetch-keeps-sound : (p d : List ℕ) → sound p ≡ true → sound (outcome fetch p d .picture) ≡ true
+fetch-keeps-sound p d s = fetch-ways (λ (o : Outcome). sound (o .picture) ≡ true) p d (λ k. s)
     (λ a b c. let H = live-queue p (A0 d) s a in
     sound-again _ (writing-keeps-sound p (fetched p (queue-named p d)) (position (A0 d)) (queue-named p d) (view p s) H (fetched-written p (position (A0 d)) (queue-named p d) H c)))
 
-pub send-keeps-sound : (p d : List ℕ) → sound p ≡ true → sound (send p d .picture) ≡ true
-send-keeps-sound p d s = send-ways (λ (o : Outcome). sound (o .picture) ≡ true) p d (λ k r. s)
+pub send-keeps-sound : (p d : List ℕ) → sound p ≡ true → sound (outcome send p d .picture) ≡ true
+send-keeps-sound p d s = send-ways (λ (o : Outcome). sound (o .picture) ≡ true) p d (λ k. s)
     (λ a b c. let H = live-queue p (A0 d) s a in
     sound-again _ (writing-keeps-sound p (sent p (queue-named p d) (D1 d % 256)) (position (A0 d)) (queue-named p d) (view p s) H (sent-written p (position (A0 d)) (queue-named p d) H (D1 d % 256) (low-byte (D1 d)) c)))
 
 -- tags: none is given
-pub pending-ages : (p d : List ℕ) → sound p ≡ true → (t : Table) → Ages p (pending p d .picture) t
-pending-ages p d s t = pending-ways (λ (o : Outcome). Ages p (o .picture) t) p d (λ k r. ages-still p t) (λ a b c. ages-still p t)
+pub pending-ages : (p d : List ℕ) → sound p ≡ true → (t : Table) → Ages p (outcome pending p d .picture) t
+pending-ages p d s t = pending-ways (λ (o : Outcome). Ages p (o .picture) t) p d (λ k. ages-still p t) (ages-still p t)
 
-pub fetch-ages : (p d : List ℕ) → sound p ≡ true → (t : Table) → Ages p (fetch p d .picture) t
-fetch-ages p d s t = fetch-ways (λ (o : Outcome). Ages p (o .picture) t) p d (λ k r. ages-still p t)
+pub fetch-ages : (p d : List ℕ) → sound p ≡ true → (t : Table) → Ages p (outcome fetch p d .picture) t
+fetch-ages p d s t = fetch-ways (λ (o : Outcome). Ages p (o .picture) t) p d (λ k. ages-still p t)
     (λ a b c. let H = live-queue p (A0 d) s a in
     tables-age p (fetched p (queue-named p d)) (tables p (fetched p (queue-named p d)) (position (A0 d)) (queue-named p d) (view p s) H (fetched-written p (position (A0 d)) (queue-named p d) H c)) t)
 
-pub send-ages : (p d : List ℕ) → sound p ≡ true → (t : Table) → Ages p (send p d .picture) t
-send-ages p d s t = send-ways (λ (o : Outcome). Ages p (o .picture) t) p d (λ k r. ages-still p t)
+pub send-ages : (p d : List ℕ) → sound p ≡ true → (t : Table) → Ages p (outcome send p d .picture) t
+send-ages p d s t = send-ways (λ (o : Outcome). Ages p (o .picture) t) p d (λ k. ages-still p t)
     (λ a b c. let H = live-queue p (A0 d) s a in
     tables-age p (sent p (queue-named p d) (D1 d % 256)) (tables p (sent p (queue-named p d) (D1 d % 256)) (position (A0 d)) (queue-named p d) (view p s) H (sent-written p (position (A0 d)) (queue-named p d) H (D1 d % 256) (low-byte (D1 d)) c)) t)

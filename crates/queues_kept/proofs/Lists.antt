@@ -19,6 +19,8 @@ use Rattle.sound.specs.Sound.{sound}
 use Rattle.facts.proofs.Sound.{Sound}
 use Rattle.facts.proofs.View.{view}
 use Rattle.calls.specs.Outcome.{Outcome, refuse, succeed}
+use Rattle.calls.specs.Call.{outcome}
+use Rattle.calls.proofs.Found.{live-channel-passes}
 use Rattle.calls.specs.Registers.{D1, A0, with-D1}
 use Rattle.keeping.proofs.Tables.{TablesSame, base-same}
 use Rattle.queues.specs.Ring.{waits, full, oldest-byte, fetched, sent, contents}
@@ -28,7 +30,7 @@ use Rattle.channels.specs.Calls.{queue-named, pending, fetch, send}
 use Rattle.channels.proofs.Found.{Held, live-queue, live-below}
 use Rattle.queues_kept.specs.Lists.{bytes-at}
 use Rattle.queues_kept.proofs.Written.{Written, tables, block-same}
-use Rattle.queues_kept.proofs.Ways.{pending-ways, fetch-ways, send-ways}
+use Rattle.queues_kept.proofs.Ways.{pending-ways, fetch-ways, fetch-where-done, send-ways, send-where-done}
 use Rattle.queues_kept.proofs.Kept.{lies, header-lies, fetched-written, sent-written, low-byte}
 
 -- a channel's queue stays where it is
@@ -55,10 +57,9 @@ other-queue p q s m n a b x W =
     (λ k l u. block-same p q (position n) (queue-of p (position n)) S H W (queue-of p (position m)) (G .there) (λ e. x (queues-differ p s m n a b e)) k (omega arith) (let r = G .room in omega arith))
 
 -- send appends
-pub send-appends : (p d : List ℕ) → sound p ≡ true → send p d .key ≡ done → bytes-at (send p d .picture) (A0 d) ≡ bytes-at p (A0 d) ++ ((D1 d % 256) ∷ [])
-send-appends p d s = send-ways (λ (o : Outcome). o .key ≡ done → bytes-at (o .picture) (A0 d) ≡ bytes-at p (A0 d) ++ ((D1 d % 256) ∷ [])) p d
-    (λ k r e. absurd (r e))
-    (λ a b c e.
+pub send-appends : (p d : List ℕ) → sound p ≡ true → outcome send p d .key ≡ done → bytes-at (outcome send p d .picture) (A0 d) ≡ bytes-at p (A0 d) ++ ((D1 d % 256) ∷ [])
+send-appends p d s = send-where-done (λ (o : Outcome). bytes-at (o .picture) (A0 d) ≡ bytes-at p (A0 d) ++ ((D1 d % 256) ∷ [])) p d
+    (λ a b c.
     let H = live-queue p (A0 d) s a in
     let W = sent-written p (position (A0 d)) (queue-named p d) H (D1 d % 256) (low-byte (D1 d)) c in
     let t = tables p (sent p (queue-named p d) (D1 d % 256)) (position (A0 d)) (queue-named p d) (view p s) H W in
@@ -66,10 +67,9 @@ send-appends p d s = send-ways (λ (o : Outcome). o .key ≡ done → bytes-at (
     ∙ sending-appends p (queue-named p d) (D1 d % 256) (H .ring) (lies p (position (A0 d)) (queue-named p d) H) (low-byte (D1 d)) c)
 
 -- fetch takes the head into D1
-pub fetch-takes-the-head : (p d : List ℕ) → sound p ≡ true → 1 < length d → fetch p d .key ≡ done → bytes-at p (A0 d) ≡ D1 (fetch p d .registers) ∷ bytes-at (fetch p d .picture) (A0 d)
-fetch-takes-the-head p d s l = fetch-ways (λ (o : Outcome). o .key ≡ done → bytes-at p (A0 d) ≡ D1 (o .registers) ∷ bytes-at (o .picture) (A0 d)) p d
-    (λ k r e. absurd (r e))
-    (λ a b c e.
+pub fetch-takes-the-head : (p d : List ℕ) → sound p ≡ true → 1 < length d → outcome fetch p d .key ≡ done → bytes-at p (A0 d) ≡ D1 (outcome fetch p d .registers) ∷ bytes-at (outcome fetch p d .picture) (A0 d)
+fetch-takes-the-head p d s l = fetch-where-done (λ (o : Outcome). bytes-at p (A0 d) ≡ D1 (o .registers) ∷ bytes-at (o .picture) (A0 d)) p d
+    (λ a b c.
     let H = live-queue p (A0 d) s a in
     let W = fetched-written p (position (A0 d)) (queue-named p d) H c in
     let t = tables p (fetched p (queue-named p d)) (position (A0 d)) (queue-named p d) (view p s) H W in
@@ -78,22 +78,22 @@ fetch-takes-the-head p d s l = fetch-ways (λ (o : Outcome). o .key ≡ done →
 
 -- pending tells whether there is a byte
 pub pending-tells : (p d : List ℕ) → live p Channels (A0 d) ≡ true → immediate d ≡ true
-    → (bytes-at p (A0 d) ≡ [] → pending p d ≡ refuse not-complete p d) × ((bytes-at p (A0 d) ≡ [] → ⊥) → pending p d ≡ succeed p d)
-unfolding pending
+    → (bytes-at p (A0 d) ≡ [] → outcome pending p d ≡ refuse not-complete p d) × ((bytes-at p (A0 d) ≡ [] → ⊥) → outcome pending p d ≡ succeed p d)
+unfolding pending outcome
 pending-tells p d a b = go (waits p (queue-named p d)) refl
   where
-    go : (c : Bool) → waits p (queue-named p d) ≡ c → (bytes-at p (A0 d) ≡ [] → pending p d ≡ refuse not-complete p d) × ((bytes-at p (A0 d) ≡ [] → ⊥) → pending p d ≡ succeed p d)
-    go true c = (λ e. absurd (waits-tells p (queue-named p d) .1 c e), λ n. rw (a, b, c))
-    go false c = (λ e. rw (a, b, c), λ n. absurd (n (waits-tells p (queue-named p d) .0 c)))
+    go : (c : Bool) → waits p (queue-named p d) ≡ c → (bytes-at p (A0 d) ≡ [] → outcome pending p d ≡ refuse not-complete p d) × ((bytes-at p (A0 d) ≡ [] → ⊥) → outcome pending p d ≡ succeed p d)
+    go true c = (λ e. absurd (waits-tells p (queue-named p d) .1 c e), λ n. rw (live-channel-passes p (A0 d) a, b, c))
+    go false c = (λ e. rw (live-channel-passes p (A0 d) a, b, c), λ n. absurd (n (waits-tells p (queue-named p d) .0 c)))
 
 -- no call on one channel touches another's queue
-pub pending-leaves-every-queue : (p d : List ℕ) (m : ℕ) → bytes-at (pending p d .picture) m ≡ bytes-at p m
-pending-leaves-every-queue p d m = pending-ways (λ (o : Outcome). bytes-at (o .picture) m ≡ bytes-at p m) p d (λ k r. refl) (λ a b c. refl)
+pub pending-leaves-every-queue : (p d : List ℕ) (m : ℕ) → bytes-at (outcome pending p d .picture) m ≡ bytes-at p m
+pending-leaves-every-queue p d m = pending-ways (λ (o : Outcome). bytes-at (o .picture) m ≡ bytes-at p m) p d (λ k. refl) refl
 
-pub fetch-leaves-other-queues : (p d : List ℕ) → sound p ≡ true → (m : ℕ) → live p Channels m ≡ true → (m ≡ A0 d → ⊥) → bytes-at (fetch p d .picture) m ≡ bytes-at p m
-fetch-leaves-other-queues p d s m l n = fetch-ways (λ (o : Outcome). bytes-at (o .picture) m ≡ bytes-at p m) p d (λ k r. refl)
+pub fetch-leaves-other-queues : (p d : List ℕ) → sound p ≡ true → (m : ℕ) → live p Channels m ≡ true → (m ≡ A0 d → ⊥) → bytes-at (outcome fetch p d .picture) m ≡ bytes-at p m
+fetch-leaves-other-queues p d s m l n = fetch-ways (λ (o : Outcome). bytes-at (o .picture) m ≡ bytes-at p m) p d (λ k. refl)
     (λ a b c. let H = live-queue p (A0 d) s a in other-queue p (fetched p (queue-named p d)) s m (A0 d) l a n (fetched-written p (position (A0 d)) (queue-named p d) H c))
 
-pub send-leaves-other-queues : (p d : List ℕ) → sound p ≡ true → (m : ℕ) → live p Channels m ≡ true → (m ≡ A0 d → ⊥) → bytes-at (send p d .picture) m ≡ bytes-at p m
-send-leaves-other-queues p d s m l n = send-ways (λ (o : Outcome). bytes-at (o .picture) m ≡ bytes-at p m) p d (λ k r. refl)
+pub send-leaves-other-queues : (p d : List ℕ) → sound p ≡ true → (m : ℕ) → live p Channels m ≡ true → (m ≡ A0 d → ⊥) → bytes-at (outcome send p d .picture) m ≡ bytes-at p m
+send-leaves-other-queues p d s m l n = send-ways (λ (o : Outcome). bytes-at (o .picture) m ≡ bytes-at p m) p d (λ k. refl)
     (λ a b c. let H = live-queue p (A0 d) s a in other-queue p (sent p (queue-named p d) (D1 d % 256)) s m (A0 d) l a n (sent-written p (position (A0 d)) (queue-named p d) H (D1 d % 256) (low-byte (D1 d)) c))

@@ -1,17 +1,26 @@
 -- Room is answered exactly when some free block of the area is long enough, whichever area it is.
 use Prim.Native.Nat.{ℕ, _<_}
-use mathlib.Core.Path.{_≡_}
-use mathlib.Core.Bool.{Bool, true, false}
+use mathlib.Core.Path.{_≡_, refl, sym}
+use mathlib.Core.Bool.{Bool, true, false, cond}
 use mathlib.Core.List.{List}
 use native.Mathlib.Omega.{arith}
+use lib.Dec.{ltb}
 use borrow.Author.Tests.{ltb-true, ltb-false, lt-ltb, le-ltb}
+use lib.IntN.{ℤ}
+use Rattle.words.proofs.Tests.{false-true}
+use Rattle.picture.specs.Keys.{done, out-of-memory}
 use Rattle.picture.specs.Layout.{from, upto}
 use Rattle.picture.specs.declared.Area.{Area}
 use Rattle.placing.specs.Place.{answer}
+use Rattle.placing.specs.declared.Placement.{Placement}
 use Rattle.placing.specs.declared.Placement.the-variants.{At, Nowhere}
 use Rattle.placing.proofs.Chosen.{Chosen, NoRoom, chosen-is-free-and-enough, chosen-is-not-past-the-end, none-is-chosen-where-all-are-shorter, all-are-shorter-where-none-is-chosen}
-use Rattle.placing.proofs.Answer.{answer-at, nowhere-is-no-room}
-use Rattle.rooms.specs.Room.{spot, has-room}
+use Rattle.placing.proofs.Answer.{answer-at}
+use Rattle.rooms.specs.Room.{spot, room-at, room-check}
+
+-- some free block of the area is long enough for n bytes
+unfoldable pub has-room : List ℕ → Area → ℕ → Bool
+has-room p a n = ltb (spot p a n) (upto p a)
 
 -- every free block of the area is shorter than n bytes
 abbrev pub Without : List ℕ → Area → ℕ → Type 0
@@ -41,6 +50,23 @@ module _ (p : List ℕ) (a : Area) (n : ℕ) where
   unfolding has-room
   spot-below h = ltb-true _ _ h
 
+  -- the check for room passes exactly where there is room
+  pub there-is-room-where-the-check-passes : room-check (room-at p a n) .0 ≡ true → has-room p a n ≡ true
+  unfolding has-room answer
+  there-is-room-where-the-check-passes h = go (has-room p a n) h
+    where
+      go : (b : Bool) → room-check (cond b (At (spot p a n)) Nowhere) .0 ≡ true → b ≡ true
+      go true e = refl
+      go false e = e
+
+  pub the-check-passes-where-there-is-room : has-room p a n ≡ true → room-check (room-at p a n) ≡ (true, done)
+  unfolding has-room answer
+  the-check-passes-where-there-is-room h = rw h
+
+  pub the-check-fails-where-there-is-no-room : has-room p a n ≡ false → room-check (room-at p a n) ≡ (false, out-of-memory)
+  unfolding has-room answer
+  the-check-fails-where-there-is-no-room h = rw h
+
   -- what an answer of placing in the area says
   pub placed-there : (i : ℕ) → answer p (from p a) (upto p a) n ≡ At i → (has-room p a n ≡ true) × ((spot p a n ≡ i) × (i < upto p a))
   unfolding has-room
@@ -50,5 +76,7 @@ module _ (p : List ℕ) (a : Area) (n : ℕ) where
       let z = r .1 in
       (lt-ltb _ _ l, (z, omega arith))
 
-  pub placed-nowhere : answer p (from p a) (upto p a) n ≡ Nowhere → has-room p a n ≡ false
-  placed-nowhere h = no-room-without-a-long-enough-block (nowhere-is-no-room p (from p a) (upto p a) n h)
+-- the check for room gives no other key than its own
+pub room-check-gives-no-other : (k : ℤ) (r : Placement) → (out-of-memory ≡ k → ⊥) → room-check r .0 ≡ false → room-check r .1 ≡ k → ⊥
+room-check-gives-no-other k (At i) n f e = false-true (sym f)
+room-check-gives-no-other k Nowhere n f e = n e

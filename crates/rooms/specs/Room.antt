@@ -1,12 +1,15 @@
 -- Room in one of the two areas: whether there is any, where, and the byte offsets of a block.
 use Prim.Native.Nat.{ℕ, _+_, _*_}
-use mathlib.Core.Bool.{Bool}
+use mathlib.Core.Bool.{true, false}
 use mathlib.Core.List.{List}
-use lib.Dec.{ltb}
 use Rattle.picture.specs.Layout.{from, upto}
+use Rattle.picture.specs.Keys.{done, out-of-memory}
 use Rattle.picture.specs.declared.Area.{Area}
 use Rattle.blocks.specs.Header.{rounded}
-use Rattle.placing.specs.Place.{chosen}
+use Rattle.placing.specs.Place.{chosen, answer}
+use Rattle.placing.specs.declared.Placement.{Placement}
+use Rattle.placing.specs.declared.Placement.the-variants.{At, Nowhere}
+use Rattle.calls.specs.Call.{Check}
 
 -- the length of a block with n bytes of room: "16 + n rounded up to 16"
 abbrev pub block-length : ℕ → ℕ
@@ -16,9 +19,14 @@ block-length n = rounded (16 + n)
 abbrev pub spot : List ℕ → Area → ℕ → ℕ
 spot p a n = chosen p (from p a) (upto p a) n
 
--- some free block of the area is long enough for n bytes
-unfoldable pub has-room : List ℕ → Area → ℕ → Bool
-has-room p a n = ltb (spot p a n) (upto p a)
+-- where n bytes find room in the area
+abbrev pub room-at : List ℕ → Area → ℕ → Placement
+room-at p a n = answer p (from p a) (upto p a) n
+
+-- "no free block of that area is long enough": -3
+abbrev pub room-check : Placement → Check
+room-check (At i) = (true, done)
+room-check Nowhere = (false, out-of-memory)
 
 -- the byte offset of the header of the block at i
 abbrev pub header-byte : ℕ → ℕ

@@ -5,8 +5,9 @@ use borrow.Author.Tests.{not-true, not-false}
 use Rattle.words.specs.Words.{word}
 use Rattle.calls.proofs.Outcome.{meets-refuse, meets-succeed}
 use Rattle.picture.specs.Numbers.{position}
+use Rattle.calls.specs.Call.{outcome}
 use Rattle.channels.specs.Effects.{queue-of}
-use Rattle.channels.proofs.Found.{Named, channel-found, channel-dead, Held, live-queue}
+use Rattle.channels.proofs.Found.{Named, channel-found, Held, live-queue}
 use Rattle.channels.specs.Calls.{close-channel}
 use borrow.Author.Needs.{needs}
 use Rattle.channels.proofs.close_channel.Statement.{statement}
@@ -36,8 +37,8 @@ same-length-2 : tie.Need-same-length-2
 same-length-2 c = search needs
 
 returns : tie.Need-returns
-unfolding close-channel
-returns c = meets-refuse _ _ _ _ (rw (channel-dead _ _ (sym (c .before .before .channel-named .ensures) ∙ c .enum-told .given .1)))
+unfolding close-channel outcome
+returns c = meets-refuse _ _ _ _ (rw (sym (c .before .before .channel-named .ensures) ∙ c .enum-told .given .1))
 
 remove-channel-requires : tie.Need-remove-channel-requires
 remove-channel-requires c κs = let f = c .before in let s = f .before .before .before .before .before .before .before .before in
@@ -50,9 +51,9 @@ same-length-4 : tie.Need-same-length-4
 same-length-4 c = search needs
 
 returns-2 : tie.Need-returns-2
-unfolding close-channel
+unfolding close-channel outcome
 returns-2 c = let r = c .before .before in let f = found (r .before .before) in
-    rw (r .remove-channel .ensures, ← f .place) (meets-succeed _ _ _ (rw (f .lives)))
+    rw (r .remove-channel .ensures, ← f .place) (meets-succeed _ _ _ (rw (f .finds)))
 
 pub close-channel-spec : {M : Type 1} → statement M
 close-channel-spec =

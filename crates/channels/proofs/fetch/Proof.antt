@@ -5,8 +5,9 @@ use borrow.Author.Tests.{not-true, not-false}
 use Rattle.words.specs.Words.{word}
 use Rattle.calls.proofs.Outcome.{meets-refuse, meets-succeed}
 use Rattle.picture.specs.Numbers.{position}
+use Rattle.calls.specs.Call.{outcome}
 use Rattle.channels.specs.Effects.{queue-of}
-use Rattle.channels.proofs.Found.{Named, channel-found, channel-dead, Held, live-queue}
+use Rattle.channels.proofs.Found.{Named, channel-found, Held, live-queue}
 use Rattle.channels.specs.Calls.{fetch}
 use borrow.Author.Needs.{needs}
 use Rattle.channels.proofs.fetch.Statement.{statement}
@@ -45,8 +46,8 @@ same-length-2 : tie.Need-same-length-2
 same-length-2 c = search needs
 
 returns : tie.Need-returns
-unfolding fetch
-returns c = meets-refuse _ _ _ _ (rw (channel-dead _ _ (sym (c .before .before .channel-named .ensures) ∙ c .enum-told .given .1)))
+unfolding fetch outcome
+returns c = meets-refuse _ _ _ _ (rw (sym (c .before .before .channel-named .ensures) ∙ c .enum-told .given .1))
 
 is-immediate-requires : tie.Need-is-immediate-requires
 is-immediate-requires c κs = search needs
@@ -58,9 +59,9 @@ same-length-4 : tie.Need-same-length-4
 same-length-4 c = search needs
 
 returns-2 : tie.Need-returns-2
-unfolding fetch
+unfolding fetch outcome
 returns-2 c = let a = c .before in let f = found (a .before .before) in
-    meets-refuse _ _ _ _ (rw (f .lives, sym (a .is-immediate .ensures) ∙ not-true _ (c .if1 .taken)))
+    meets-refuse _ _ _ _ (rw (f .finds, sym (a .is-immediate .ensures) ∙ not-true _ (c .if1 .taken)))
 
 queue-at-requires : tie.Need-queue-at-requires
 queue-at-requires c κs = found (c .before .before .before .before) .below
@@ -75,9 +76,9 @@ same-length-6 : tie.Need-same-length-6
 same-length-6 c = search needs
 
 returns-3 : tie.Need-returns-3
-unfolding fetch
+unfolding fetch outcome
 returns-3 c = let w = c .before in let q = w .before .before in let e = q .before .before in let a = e .before in let f = found (a .before .before) in
-    meets-refuse _ _ _ _ (rw (f .lives, sym (a .is-immediate .ensures) ∙ not-false _ (e .if1 .left), rw (asked q) at (sym (w .is-waiting .ensures) ∙ not-true _ (c .if2 .taken))))
+    meets-refuse _ _ _ _ (rw (f .finds, sym (a .is-immediate .ensures) ∙ not-false _ (e .if1 .left), rw (asked q) at (sym (w .is-waiting .ensures) ∙ not-true _ (c .if2 .taken))))
 
 oldest-of-requires : tie.Need-oldest-of-requires
 oldest-of-requires c κs = search needs
@@ -97,9 +98,9 @@ same-length-8 : tie.Need-same-length-8
 same-length-8 c = search needs
 
 returns-4 : tie.Need-returns-4
-unfolding fetch
+unfolding fetch outcome
 returns-4 c = let t = c .before .before in let u = t .before .before .before .before in let o = u .before in let x = o .before .before .before in let w = x .before in let q = w .before .before in let e = q .before .before in let a = e .before in let f = found (a .before .before) in
-    rw (t .take-oldest .ensures, u .put .ensures, o .oldest-of .ensures, asked q) (meets-succeed _ _ _ (rw (f .lives, sym (a .is-immediate .ensures) ∙ not-false _ (e .if1 .left), rw (asked q) at (sym (w .is-waiting .ensures) ∙ not-false _ (x .if2 .left)))))
+    rw (t .take-oldest .ensures, u .put .ensures, o .oldest-of .ensures, asked q) (meets-succeed _ _ _ (rw (f .finds, sym (a .is-immediate .ensures) ∙ not-false _ (e .if1 .left), rw (asked q) at (sym (w .is-waiting .ensures) ∙ not-false _ (x .if2 .left)))))
 
 pub fetch-spec : {M : Type 1} → statement M
 fetch-spec =

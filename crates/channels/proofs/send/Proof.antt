@@ -5,8 +5,9 @@ use borrow.Author.Tests.{not-true, not-false}
 use Rattle.words.specs.Words.{word}
 use Rattle.calls.proofs.Outcome.{meets-refuse, meets-succeed}
 use Rattle.picture.specs.Numbers.{position}
+use Rattle.calls.specs.Call.{outcome}
 use Rattle.channels.specs.Effects.{queue-of}
-use Rattle.channels.proofs.Found.{Named, channel-found, channel-dead, Held, live-queue}
+use Rattle.channels.proofs.Found.{Named, channel-found, Held, live-queue}
 use Rattle.channels.specs.Calls.{send}
 use borrow.Author.Needs.{needs}
 use Rattle.channels.proofs.send.Statement.{statement}
@@ -44,8 +45,8 @@ same-length-2 : tie.Need-same-length-2
 same-length-2 c = search needs
 
 returns : tie.Need-returns
-unfolding send
-returns c = meets-refuse _ _ _ _ (rw (channel-dead _ _ (sym (c .before .before .channel-named .ensures) ∙ c .enum-told .given .1)))
+unfolding send outcome
+returns c = meets-refuse _ _ _ _ (rw (sym (c .before .before .channel-named .ensures) ∙ c .enum-told .given .1))
 
 is-immediate-requires : tie.Need-is-immediate-requires
 is-immediate-requires c κs = search needs
@@ -57,9 +58,9 @@ same-length-4 : tie.Need-same-length-4
 same-length-4 c = search needs
 
 returns-2 : tie.Need-returns-2
-unfolding send
+unfolding send outcome
 returns-2 c = let a = c .before in let f = found (a .before .before) in
-    meets-refuse _ _ _ _ (rw (f .lives, sym (a .is-immediate .ensures) ∙ not-true _ (c .if1 .taken)))
+    meets-refuse _ _ _ _ (rw (f .finds, sym (a .is-immediate .ensures) ∙ not-true _ (c .if1 .taken)))
 
 queue-at-requires : tie.Need-queue-at-requires
 queue-at-requires c κs = found (c .before .before .before .before) .below
@@ -74,9 +75,9 @@ same-length-6 : tie.Need-same-length-6
 same-length-6 c = search needs
 
 returns-3 : tie.Need-returns-3
-unfolding send
+unfolding send outcome
 returns-3 c = let w = c .before in let q = w .before .before in let e = q .before .before in let a = e .before in let f = found (a .before .before) in
-    meets-refuse _ _ _ _ (rw (f .lives, sym (a .is-immediate .ensures) ∙ not-false _ (e .if1 .left), rw (asked q) at (sym (w .is-full .ensures) ∙ c .if2 .taken)))
+    meets-refuse _ _ _ _ (rw (f .finds, sym (a .is-immediate .ensures) ∙ not-false _ (e .if1 .left), rw (asked q) at (sym (w .is-full .ensures) ∙ c .if2 .taken)))
 
 word-requires : tie.Need-word-requires
 word-requires c κs = search needs
@@ -93,9 +94,9 @@ same-length-8 : tie.Need-same-length-8
 same-length-8 c = search needs
 
 returns-4 : tie.Need-returns-4
-unfolding send
+unfolding send outcome
 returns-4 c = let t = c .before .before in let o = t .before in let x = o .before .before .before in let w = x .before in let q = w .before .before in let e = q .before .before in let a = e .before in let f = found (a .before .before) in
-    rw (t .add-newest .ensures, o .word .ensures, asked q) (meets-succeed _ _ _ (rw (f .lives, sym (a .is-immediate .ensures) ∙ not-false _ (e .if1 .left), rw (asked q) at (sym (w .is-full .ensures) ∙ x .if2 .left))))
+    rw (t .add-newest .ensures, o .word .ensures, asked q) (meets-succeed _ _ _ (rw (f .finds, sym (a .is-immediate .ensures) ∙ not-false _ (e .if1 .left), rw (asked q) at (sym (w .is-full .ensures) ∙ x .if2 .left))))
 
 pub send-spec : {M : Type 1} → statement M
 send-spec =

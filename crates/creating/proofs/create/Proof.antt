@@ -5,7 +5,7 @@ use Rattle.picture.specs.declared.Area.the-variants.{Transient}
 use Rattle.calls.proofs.Outcome.{meets-refuse}
 use Rattle.rooms.proofs.Room.{placed-there}
 use Rattle.rooms.proofs.Sizes.{areas-lie-in-a-sound-picture}
-use Rattle.creating.proofs.Ways.{owner-of, owner-dead, position-free, no-position, tag-left, no-tag, create-dead, create-bad, create-no-position, create-no-tag, create-nowhere, create-there}
+use Rattle.creating.proofs.Ways.{position-free, no-position, tag-left, no-tag, create-dead, create-bad, create-no-position, create-no-tag, create-nowhere, create-there}
 use borrow.Author.Needs.{needs}
 use Rattle.creating.proofs.create.Statement.{statement}
 use Rattle.creating.proofs.create.Tie as tie
@@ -41,7 +41,7 @@ same-length-2 : tie.Need-same-length-2
 same-length-2 c = search needs
 
 returns : tie.Need-returns
-returns c = meets-refuse _ _ _ _ (create-dead _ _ (owner-dead _ _ (rw (c .before .before .before .word .ensures) at (sym (c .before .before .owner-for .ensures) ∙ c .enum-told .given .1))))
+returns c = meets-refuse _ _ _ _ (create-dead _ _ (rw (c .before .before .before .word .ensures) at (sym (c .before .before .owner-for .ensures) ∙ c .enum-told .given .1)))
 
 word-requires-2 : tie.Need-word-requires-2
 word-requires-2 c κs = search needs
@@ -53,8 +53,8 @@ same-length-4 : tie.Need-same-length-4
 same-length-4 c = search needs
 
 returns-2 : tie.Need-returns-2
-returns-2 c = let o = owner-of _ _ _ (rw (c .before .before .before .before .before .before .before .word .ensures) at (sym (c .before .before .before .before .before .before .owner-for .ensures) ∙ c .before .before .before .before .owner .given .1)) in
-    meets-refuse _ _ _ _ (create-bad _ _ (o .0) (rw (c .before .word2 .ensures) at (c .if1 .taken)))
+returns-2 c = let o = rw (c .before .before .before .before .before .before .before .word .ensures) at (sym (c .before .before .before .before .before .before .owner-for .ensures) ∙ c .before .before .before .before .owner .given .1) in
+    meets-refuse _ _ _ _ (create-bad _ _ _ o (rw (c .before .word2 .ensures) at (c .if1 .taken)))
 
 free-position-requires : tie.Need-free-position-requires
 free-position-requires c κs = search needs
@@ -66,8 +66,8 @@ same-length-6 : tie.Need-same-length-6
 same-length-6 c = search needs
 
 returns-3 : tie.Need-returns-3
-returns-3 c = let o = owner-of _ _ _ (rw (c .before .before .before .before .before .before .before .before .before .before .word .ensures) at (sym (c .before .before .before .before .before .before .before .before .before .owner-for .ensures) ∙ c .before .before .before .before .before .before .before .owner .given .1)) in
-    meets-refuse _ _ _ _ (create-no-position _ _ (o .0) (rw (c .before .before .before .before .word2 .ensures) at (c .before .before .before .if1 .left)) (no-position _ Jobs (rw (c .before .free-position .ensures .0) at (c .if2 .taken))))
+returns-3 c = let o = rw (c .before .before .before .before .before .before .before .before .before .before .word .ensures) at (sym (c .before .before .before .before .before .before .before .before .before .owner-for .ensures) ∙ c .before .before .before .before .before .before .before .owner .given .1) in
+    meets-refuse _ _ _ _ (create-no-position _ _ _ o (rw (c .before .before .before .before .word2 .ensures) at (c .before .before .before .if1 .left)) (no-position _ Jobs (rw (c .before .free-position .ensures .0) at (c .if2 .taken))))
 
 last-of-requires : tie.Need-last-of-requires
 last-of-requires c κs = search needs
@@ -82,8 +82,8 @@ same-length-8 : tie.Need-same-length-8
 same-length-8 c = search needs
 
 returns-4 : tie.Need-returns-4
-returns-4 c = let o = owner-of _ _ _ (rw (c .before .before .before .before .before .before .before .before .before .before .before .before .before .before .word .ensures) at (sym (c .before .before .before .before .before .before .before .before .before .before .before .before .before .owner-for .ensures) ∙ c .before .before .before .before .before .before .before .before .before .before .before .owner .given .1)) in
-    meets-refuse _ _ _ _ (create-no-tag _ _ (o .0) (rw (c .before .before .before .before .before .before .before .before .word2 .ensures) at (c .before .before .before .before .before .before .before .if1 .left)) (position-free _ Jobs (rw (c .before .before .before .before .before .free-position .ensures .0) at (c .before .before .before .before .if2 .left))) (no-tag _ Jobs (rw (c .before .word3 .ensures, c .before .before .last-of .ensures) at (c .if3 .taken))))
+returns-4 c = let o = rw (c .before .before .before .before .before .before .before .before .before .before .before .before .before .before .word .ensures) at (sym (c .before .before .before .before .before .before .before .before .before .before .before .before .before .owner-for .ensures) ∙ c .before .before .before .before .before .before .before .before .before .before .before .owner .given .1) in
+    meets-refuse _ _ _ _ (create-no-tag _ _ _ o (rw (c .before .before .before .before .before .before .before .before .word2 .ensures) at (c .before .before .before .before .before .before .before .if1 .left)) (position-free _ Jobs (rw (c .before .before .before .before .before .free-position .ensures .0) at (c .before .before .before .before .if2 .left))) (no-tag _ Jobs (rw (c .before .word3 .ensures, c .before .before .last-of .ensures) at (c .if3 .taken))))
 
 word-requires-4 : tie.Need-word-requires-4
 word-requires-4 c κs = search needs
@@ -119,12 +119,12 @@ same-length-10 : tie.Need-same-length-10
 same-length-10 c = search needs
 
 returns-5 : tie.Need-returns-5
-returns-5 c = let o = owner-of _ _ _ (rw (c .before .before .before .before .before .before .before .before .before .before .before .before .before .before .before .before .before .before .before .before .before .before .before .before .before .word .ensures) at (sym (c .before .before .before .before .before .before .before .before .before .before .before .before .before .before .before .before .before .before .before .before .before .before .before .before .owner-for .ensures) ∙ c .before .before .before .before .before .before .before .before .before .before .before .before .before .before .before .before .before .before .before .before .before .before .owner .given .1)) in
+returns-5 c = let o = rw (c .before .before .before .before .before .before .before .before .before .before .before .before .before .before .before .before .before .before .before .before .before .before .before .before .before .word .ensures) at (sym (c .before .before .before .before .before .before .before .before .before .before .before .before .before .before .before .before .before .before .before .before .before .before .before .before .owner-for .ensures) ∙ c .before .before .before .before .before .before .before .before .before .before .before .before .before .before .before .before .before .before .before .before .before .before .owner .given .1) in
     let enough = rw (c .before .before .before .before .before .before .before .before .before .before .before .before .before .before .before .before .before .before .before .word2 .ensures) at (c .before .before .before .before .before .before .before .before .before .before .before .before .before .before .before .before .before .before .if1 .left) in
     let place = position-free _ Jobs (rw (c .before .before .before .before .before .before .before .before .before .before .before .before .before .before .before .before .free-position .ensures .0) at (c .before .before .before .before .before .before .before .before .before .before .before .before .before .before .before .if2 .left)) in
     let tagged = tag-left _ Jobs (rw (c .before .before .before .before .before .before .before .before .before .before .before .before .word3 .ensures, c .before .before .before .before .before .before .before .before .before .before .before .before .before .last-of .ensures) at (c .before .before .before .before .before .before .before .before .before .before .before .if3 .left)) in
     let long = rw (c .before .before .before .before .before .before .before .before .before .word4 .ensures, c .before .before .before .before .before .before .before .before .before .before .before .before .before .before .before .before .before .before .before .word2 .ensures) at (c .before .before .before .before .before .before .before .before .block-length .ensures) in
-    create-nowhere _ _ (o .0) enough place tagged _ _ long (o .1) _ (rw (c .before .before .before .before .before .before .word5 .ensures) at (c .before .before .before .before .place-in .ensures .leaves)) (sym (c .before .before .before .before .place-in .ensures .answers) ∙ c .enum-told2 .given .1)
+    create-nowhere _ _ _ o enough place tagged _ long _ (rw (c .before .before .before .before .before .before .word5 .ensures) at (c .before .before .before .before .place-in .ensures .leaves)) (sym (c .before .before .before .before .place-in .ensures .answers) ∙ c .enum-told2 .given .1)
 
 add-enter : tie.Need-add-enter
 add-enter c = search needs
@@ -151,7 +151,7 @@ same-length-12 : tie.Need-same-length-12
 same-length-12 c = search needs
 
 returns-6 : tie.Need-returns-6
-returns-6 c = let o = owner-of _ _ _ (rw (c .before .before .before .before .before .before .before .before .before .before .before .before .before .before .before .before .before .before .before .before .before .before .before .before .before .before .before .before .before .before .before .before .before .before .before .before .word .ensures) at (sym (c .before .before .before .before .before .before .before .before .before .before .before .before .before .before .before .before .before .before .before .before .before .before .before .before .before .before .before .before .before .before .before .before .before .before .before .owner-for .ensures) ∙ c .before .before .before .before .before .before .before .before .before .before .before .before .before .before .before .before .before .before .before .before .before .before .before .before .before .before .before .before .before .before .before .before .before .owner .given .1)) in
+returns-6 c = let o = rw (c .before .before .before .before .before .before .before .before .before .before .before .before .before .before .before .before .before .before .before .before .before .before .before .before .before .before .before .before .before .before .before .before .before .before .before .before .word .ensures) at (sym (c .before .before .before .before .before .before .before .before .before .before .before .before .before .before .before .before .before .before .before .before .before .before .before .before .before .before .before .before .before .before .before .before .before .before .before .owner-for .ensures) ∙ c .before .before .before .before .before .before .before .before .before .before .before .before .before .before .before .before .before .before .before .before .before .before .before .before .before .before .before .before .before .before .before .before .before .owner .given .1) in
     let enough = rw (c .before .before .before .before .before .before .before .before .before .before .before .before .before .before .before .before .before .before .before .before .before .before .before .before .before .before .before .before .before .before .word2 .ensures) at (c .before .before .before .before .before .before .before .before .before .before .before .before .before .before .before .before .before .before .before .before .before .before .before .before .before .before .before .before .before .if1 .left) in
     let place = position-free _ Jobs (rw (c .before .before .before .before .before .before .before .before .before .before .before .before .before .before .before .before .before .before .before .before .before .before .before .before .before .before .before .free-position .ensures .0) at (c .before .before .before .before .before .before .before .before .before .before .before .before .before .before .before .before .before .before .before .before .before .before .before .before .before .before .if2 .left)) in
     let tagged = tag-left _ Jobs (rw (c .before .before .before .before .before .before .before .before .before .before .before .before .before .before .before .before .before .before .before .before .before .before .before .word3 .ensures, c .before .before .before .before .before .before .before .before .before .before .before .before .before .before .before .before .before .before .before .before .before .before .before .before .last-of .ensures) at (c .before .before .before .before .before .before .before .before .before .before .before .before .before .before .before .before .before .before .before .before .before .before .if3 .left)) in
@@ -160,7 +160,7 @@ returns-6 c = let o = owner-of _ _ _ (rw (c .before .before .before .before .bef
     let at = sym (c .before .before .before .before .before .before .before .before .before .before .before .before .before .before .before .place-in .ensures .answers) ∙ c .before .before .before .before .before .before .before .before .before .before .before .i .given .1 in
     let written = rw (c .before .before .before .before .before .before .before .before .header-byte .ensures, c .before .before .before .before .before .before .before .before .before .before .before .before .before .before .before .before .before .before .before .before .before .before .before .before .before .before .before .free-position .ensures .0, c .before .before .before .before .before .before .before .before .before .before .before .before .before .before .before .before .before .before .before .before .before .before .before .word3 .ensures, c .before .before .before .before .before .before .before .before .before .before .before .before .before .before .before .before .before .before .before .before .before .before .before .before .last-of .ensures) at (c .before .before .before .before .before .before .before .enter .ensures) in
     let given = rw (c .before .before .before .number-of .ensures, c .before .before .before .before .before .before .before .before .before .before .before .before .before .before .before .before .before .before .before .before .before .before .before .before .before .before .before .free-position .ensures .0, c .before .before .before .before .before .before .before .before .before .before .before .before .before .before .before .before .before .before .before .before .before .before .before .word3 .ensures, c .before .before .before .before .before .before .before .before .before .before .before .before .before .before .before .before .before .before .before .before .before .before .before .before .last-of .ensures) at (c .before .before .answer-job .ensures) in
-    create-there _ _ (o .0) enough place tagged _ _ long (o .1) _ leaves _ _ _ at written given
+    create-there _ _ _ o enough place tagged _ long _ leaves _ _ _ at written given
 
 pub create-spec : {M : Type 1} → statement M
 create-spec =

@@ -1,5 +1,6 @@
 use mathlib.Core.Path.{refl}
 use Rattle.calls.proofs.Outcome.{meets-succeed}
+use Rattle.calls.specs.Call.{outcome}
 use Rattle.jobs.specs.Calls.{information}
 use borrow.Author.Needs.{needs}
 use Rattle.jobs.proofs.information.Statement.{statement}
@@ -28,7 +29,7 @@ same-length-2 : tie.Need-same-length-2
 same-length-2 c = search needs
 
 returns : tie.Need-returns
-unfolding information
+unfolding information outcome
 returns c = rw (c .before .before .put3 .ensures, c .before .before .before .before .before .before .put2 .ensures, c .before .before .before .before .before .before .before .before .before .before .put .ensures, c .before .before .before .before .before .before .before .before .before .before .before .caller-of .ensures) (meets-succeed _ _ _ refl)
 
 pub information-spec : {M : Type 1} → statement M

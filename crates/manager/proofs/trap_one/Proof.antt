@@ -1,3 +1,4 @@
+use Rattle.calls.specs.Call.{outcome}
 use Rattle.manager.specs.Door.{trap-one}
 use Rattle.calls.proofs.Outcome.{meets-refuse}
 use borrow.Author.Tests.{ne-eqb}
@@ -65,7 +66,7 @@ same-length-2 : tie.Need-same-length-2
 same-length-2 c = search needs
 
 returns : tie.Need-returns
-unfolding trap-one
+unfolding trap-one outcome
 returns c =
     let f = c .before .before .before .before in
     rw (f .before .before .before .match .keys1, toZ-ofZ w32 (f .information .result) (record { sfits = f .information .ok })) (f .information .ensures)
@@ -77,7 +78,7 @@ same-length-4 : tie.Need-same-length-4
 same-length-4 c = search needs
 
 returns-2 : tie.Need-returns-2
-unfolding trap-one
+unfolding trap-one outcome
 returns-2 c =
     let f = c .before .before .before .before in
     rw (f .before .before .before .match .keys2, toZ-ofZ w32 (f .create .result) (record { sfits = f .create .ok })) (f .create .ensures)
@@ -89,7 +90,7 @@ same-length-6 : tie.Need-same-length-6
 same-length-6 c = search needs
 
 returns-3 : tie.Need-returns-3
-unfolding trap-one
+unfolding trap-one outcome
 returns-3 c =
     let f = c .before .before .before .before in
     rw (f .before .before .before .match .keys3, toZ-ofZ w32 (f .ask .result) (record { sfits = f .ask .ok })) (f .ask .ensures)
@@ -101,7 +102,7 @@ same-length-8 : tie.Need-same-length-8
 same-length-8 c = search needs
 
 returns-4 : tie.Need-returns-4
-unfolding trap-one
+unfolding trap-one outcome
 returns-4 c =
     let f = c .before .before .before .before in
     rw (f .before .before .before .match .keys4, toZ-ofZ w32 (f .remove .result) (record { sfits = f .remove .ok })) (f .remove .ensures)
@@ -113,7 +114,7 @@ same-length-10 : tie.Need-same-length-10
 same-length-10 c = search needs
 
 returns-5 : tie.Need-returns-5
-unfolding trap-one
+unfolding trap-one outcome
 returns-5 c =
     let f = c .before .before .before .before in
     rw (f .before .before .before .match .keys5, toZ-ofZ w32 (f .force-remove .result) (record { sfits = f .force-remove .ok })) (f .force-remove .ensures)
@@ -125,7 +126,7 @@ same-length-12 : tie.Need-same-length-12
 same-length-12 c = search needs
 
 returns-6 : tie.Need-returns-6
-unfolding trap-one
+unfolding trap-one outcome
 returns-6 c =
     let f = c .before .before .before .before in
     rw (f .before .before .before .match .keys6, toZ-ofZ w32 (f .longest-room .result) (record { sfits = f .longest-room .ok })) (f .longest-room .ensures)
@@ -137,7 +138,7 @@ same-length-14 : tie.Need-same-length-14
 same-length-14 c = search needs
 
 returns-7 : tie.Need-returns-7
-unfolding trap-one
+unfolding trap-one outcome
 returns-7 c =
     let f = c .before .before .before .before in
     rw (f .before .before .before .match .keys7, toZ-ofZ w32 (f .suspend .result) (record { sfits = f .suspend .ok })) (f .suspend .ensures)
@@ -149,7 +150,7 @@ same-length-16 : tie.Need-same-length-16
 same-length-16 c = search needs
 
 returns-8 : tie.Need-returns-8
-unfolding trap-one
+unfolding trap-one outcome
 returns-8 c =
     let f = c .before .before .before .before in
     rw (f .before .before .before .match .keys8, toZ-ofZ w32 (f .release .result) (record { sfits = f .release .ok })) (f .release .ensures)
@@ -161,7 +162,7 @@ same-length-18 : tie.Need-same-length-18
 same-length-18 c = search needs
 
 returns-9 : tie.Need-returns-9
-unfolding trap-one
+unfolding trap-one outcome
 returns-9 c =
     let f = c .before .before .before .before in
     rw (f .before .before .before .match .keys9, toZ-ofZ w32 (f .activate .result) (record { sfits = f .activate .ok })) (f .activate .ensures)
@@ -173,7 +174,7 @@ same-length-20 : tie.Need-same-length-20
 same-length-20 c = search needs
 
 returns-10 : tie.Need-returns-10
-unfolding trap-one
+unfolding trap-one outcome
 returns-10 c =
     let f = c .before .before .before .before in
     rw (f .before .before .before .match .keys10, toZ-ofZ w32 (f .set-priority .result) (record { sfits = f .set-priority .ok })) (f .set-priority .ensures)
@@ -185,7 +186,7 @@ same-length-22 : tie.Need-same-length-22
 same-length-22 c = search needs
 
 returns-11 : tie.Need-returns-11
-unfolding trap-one
+unfolding trap-one outcome
 returns-11 c =
     let f = c .before .before .before .before in
     rw (f .before .before .before .match .keys11, toZ-ofZ w32 (f .take .result) (record { sfits = f .take .ok })) (f .take .ensures)
@@ -197,13 +198,13 @@ same-length-24 : tie.Need-same-length-24
 same-length-24 c = search needs
 
 returns-12 : tie.Need-returns-12
-unfolding trap-one
+unfolding trap-one outcome
 returns-12 c =
     let f = c .before .before .before .before in
     rw (f .before .before .before .match .keys12, toZ-ofZ w32 (f .give-back .result) (record { sfits = f .give-back .ok })) (f .give-back .ensures)
 
 returns-13 : tie.Need-returns-13
-unfolding trap-one
+unfolding trap-one outcome
 returns-13 c = meets-refuse _ _ _ _ (rw (ne-eqb _ _ (c .match .rest .0 .0 .0 .0 .0 .0 .0 .0 .0 .0 .0 .1), ne-eqb _ _ (c .match .rest .0 .0 .0 .0 .0 .0 .0 .0 .0 .0 .1), ne-eqb _ _ (c .match .rest .0 .0 .0 .0 .0 .0 .0 .0 .0 .1), ne-eqb _ _ (c .match .rest .0 .0 .0 .0 .0 .0 .0 .0 .1), ne-eqb _ _ (c .match .rest .0 .0 .0 .0 .0 .0 .0 .1), ne-eqb _ _ (c .match .rest .0 .0 .0 .0 .0 .0 .1), ne-eqb _ _ (c .match .rest .0 .0 .0 .0 .0 .1), ne-eqb _ _ (c .match .rest .0 .0 .0 .0 .1), ne-eqb _ _ (c .match .rest .0 .0 .0 .1), ne-eqb _ _ (c .match .rest .0 .0 .1), ne-eqb _ _ (c .match .rest .0 .1), ne-eqb _ _ (c .match .rest .1)))
 
 pub trap-one-spec : {M : Type 1} → statement M

@@ -1,3 +1,4 @@
+use Rattle.calls.specs.Call.{outcome}
 use Rattle.manager.specs.Door.{trap-three}
 use Rattle.calls.proofs.Outcome.{meets-refuse}
 use borrow.Author.Tests.{ne-eqb}
@@ -29,7 +30,7 @@ same-length-2 : tie.Need-same-length-2
 same-length-2 c = search needs
 
 returns : tie.Need-returns
-unfolding trap-three
+unfolding trap-three outcome
 returns c =
     let f = c .before .before .before .before in
     rw (f .before .before .before .match .keys1, toZ-ofZ w32 (f .pending .result) (record { sfits = f .pending .ok })) (f .pending .ensures)
@@ -41,7 +42,7 @@ same-length-4 : tie.Need-same-length-4
 same-length-4 c = search needs
 
 returns-2 : tie.Need-returns-2
-unfolding trap-three
+unfolding trap-three outcome
 returns-2 c =
     let f = c .before .before .before .before in
     rw (f .before .before .before .match .keys2, toZ-ofZ w32 (f .fetch .result) (record { sfits = f .fetch .ok })) (f .fetch .ensures)
@@ -53,13 +54,13 @@ same-length-6 : tie.Need-same-length-6
 same-length-6 c = search needs
 
 returns-3 : tie.Need-returns-3
-unfolding trap-three
+unfolding trap-three outcome
 returns-3 c =
     let f = c .before .before .before .before in
     rw (f .before .before .before .match .keys3, toZ-ofZ w32 (f .send .result) (record { sfits = f .send .ok })) (f .send .ensures)
 
 returns-4 : tie.Need-returns-4
-unfolding trap-three
+unfolding trap-three outcome
 returns-4 c = meets-refuse _ _ _ _ (rw (ne-eqb _ _ (c .match .rest .0 .0 .1), ne-eqb _ _ (c .match .rest .0 .1), ne-eqb _ _ (c .match .rest .1)))
 
 pub trap-three-spec : {M : Type 1} → statement M

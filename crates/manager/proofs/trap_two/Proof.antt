@@ -1,3 +1,4 @@
+use Rattle.calls.specs.Call.{outcome}
 use Rattle.manager.specs.Door.{trap-two}
 use Rattle.calls.proofs.Outcome.{meets-refuse}
 use borrow.Author.Tests.{ne-eqb}
@@ -25,7 +26,7 @@ same-length-2 : tie.Need-same-length-2
 same-length-2 c = search needs
 
 returns : tie.Need-returns
-unfolding trap-two
+unfolding trap-two outcome
 returns c =
     let f = c .before .before .before .before in
     rw (f .before .before .before .match .keys1, toZ-ofZ w32 (f .open-channel .result) (record { sfits = f .open-channel .ok })) (f .open-channel .ensures)
@@ -37,13 +38,13 @@ same-length-4 : tie.Need-same-length-4
 same-length-4 c = search needs
 
 returns-2 : tie.Need-returns-2
-unfolding trap-two
+unfolding trap-two outcome
 returns-2 c =
     let f = c .before .before .before .before in
     rw (f .before .before .before .match .keys2, toZ-ofZ w32 (f .close-channel .result) (record { sfits = f .close-channel .ok })) (f .close-channel .ensures)
 
 returns-3 : tie.Need-returns-3
-unfolding trap-two
+unfolding trap-two outcome
 returns-3 c = meets-refuse _ _ _ _ (rw (ne-eqb _ _ (c .match .rest .0 .1), ne-eqb _ _ (c .match .rest .1)))
 
 pub trap-two-spec : {M : Type 1} → statement M

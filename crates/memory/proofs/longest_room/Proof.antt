@@ -1,5 +1,6 @@
 use mathlib.Core.Path.{refl}
 use Rattle.calls.proofs.Outcome.{meets-succeed}
+use Rattle.calls.specs.Call.{outcome}
 use Rattle.memory.specs.Memory.{longest-room}
 use borrow.Author.Needs.{needs}
 use Rattle.memory.proofs.longest_room.Statement.{statement}
@@ -38,7 +39,7 @@ same-length-2 : tie.Need-same-length-2
 same-length-2 c = search needs
 
 returns : tie.Need-returns
-unfolding longest-room
+unfolding longest-room outcome
 returns c = rw (c .before .before .put .ensures, c .before .before .before .room-of .ensures, c .before .before .before .before .before .before .before .clear-registers .ensures, c .before .before .before .before .before .before .before .before .before .longest-free .ensures, c .before .before .before .before .before .before .before .before .before .before .before .area-upto .ensures .0, c .before .before .before .before .before .before .before .before .before .before .before .before .before .area-from .ensures .0) (meets-succeed _ _ _ refl)
 
 pub longest-room-spec : {M : Type 1} → statement M

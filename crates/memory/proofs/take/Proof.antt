@@ -4,7 +4,6 @@ use borrow.Author.Tests.{not-false, not-true}
 use mathlib.Core.Path.{sym, _∙_}
 use Rattle.picture.specs.declared.Area.the-variants.{Heap}
 use Rattle.calls.proofs.Outcome.{meets-refuse}
-use Rattle.rooms.proofs.Found.{found-is-live, dead-is-not-live}
 use Rattle.rooms.proofs.Sizes.{areas-lie-in-a-sound-picture}
 use Rattle.memory.proofs.Ways.{take-bad, take-dead, take-nowhere, take-there, length-small}
 use borrow.Author.Needs.{needs}
@@ -54,7 +53,7 @@ same-length-3 : tie.Need-same-length-3
 same-length-3 c = search needs
 
 returns-2 : tie.Need-returns-2
-returns-2 c = meets-refuse _ _ _ _ (take-dead _ _ (sym (rw (c .before .before .before .before .before .before .before .before .before .before .word .ensures) at (c .before .before .before .before .before .before .before .before .before .is-length .ensures)) ∙ not-false _ (c .before .before .before .before .before .before .before .before .if1 .left)) (dead-is-not-live _ _ (rw (c .before .before .before .before .number-meant .ensures, c .before .before .before .before .before .word2 .ensures) at (sym (c .before .before .job-at .ensures) ∙ c .enum-told2 .given .1))))
+returns-2 c = meets-refuse _ _ _ _ (take-dead _ _ (sym (rw (c .before .before .before .before .before .before .before .before .before .before .word .ensures) at (c .before .before .before .before .before .before .before .before .before .is-length .ensures)) ∙ not-false _ (c .before .before .before .before .before .before .before .before .if1 .left)) (rw (c .before .before .before .before .number-meant .ensures, c .before .before .before .before .before .word2 .ensures) at (sym (c .before .before .job-at .ensures) ∙ c .enum-told2 .given .1)))
 
 cast-block-length : tie.Need-cast-block-length
 cast-block-length c = search needs
@@ -79,10 +78,10 @@ same-length-5 c = search needs
 
 returns-3 : tie.Need-returns-3
 returns-3 c = let good = sym (rw (c .before .before .before .before .before .before .before .before .before .before .before .before .before .before .before .before .before .word .ensures) at (c .before .before .before .before .before .before .before .before .before .before .before .before .before .before .before .before .is-length .ensures)) ∙ not-false _ (c .before .before .before .before .before .before .before .before .before .before .before .before .before .before .before .if1 .left) in
-    let alive = found-is-live _ _ _ (rw (c .before .before .before .before .before .before .before .before .before .before .before .number-meant .ensures, c .before .before .before .before .before .before .before .before .before .before .before .before .word2 .ensures) at (sym (c .before .before .before .before .before .before .before .before .before .job-at .ensures) ∙ c .before .before .before .before .before .before .before .enum-told .given .1)) .0 in
+    let alive = rw (c .before .before .before .before .before .before .before .before .before .before .before .number-meant .ensures, c .before .before .before .before .before .before .before .before .before .before .before .before .word2 .ensures) at (sym (c .before .before .before .before .before .before .before .before .before .job-at .ensures) ∙ c .before .before .before .before .before .before .before .enum-told .given .1) in
     let long = rw (c .before .before .before .before .before .before .before .before .before .before .before .before .before .before .before .before .before .word .ensures) at (c .before .before .before .before .before .before .block-length .ensures) in
     let owner = rw (c .before .before .before .before .before .before .before .before .before .before .before .before .word2 .ensures) at (c .before .before .before .before .before .before .before .before .before .before .before .number-meant .ensures) in
-    take-nowhere _ _ _ _ good alive long owner _ (c .before .before .before .before .place-in .ensures .leaves) (sym (c .before .before .before .before .place-in .ensures .answers) ∙ c .enum-told3 .given .1)
+    take-nowhere _ _ _ _ _ good alive long owner _ (c .before .before .before .before .place-in .ensures .leaves) (sym (c .before .before .before .before .place-in .ensures .answers) ∙ c .enum-told3 .given .1)
 
 cast-answer-room : tie.Need-cast-answer-room
 cast-answer-room c = let good = sym (c .before .before .before .before .before .before .before .before .before .before .before .before .before .before .before .before .before .before .is-length .ensures) ∙ not-false _ (c .before .before .before .before .before .before .before .before .before .before .before .before .before .before .before .before .before .if1 .left) in omega (arith, c .before .before .before .before .before .before .before .before .block-length .ensures, length-small _ good)
@@ -98,10 +97,10 @@ same-length-7 c = search needs
 
 returns-4 : tie.Need-returns-4
 returns-4 c = let good = sym (rw (c .before .before .before .before .before .before .before .before .before .before .before .before .before .before .before .before .before .before .before .before .before .before .word .ensures) at (c .before .before .before .before .before .before .before .before .before .before .before .before .before .before .before .before .before .before .before .before .before .is-length .ensures)) ∙ not-false _ (c .before .before .before .before .before .before .before .before .before .before .before .before .before .before .before .before .before .before .before .before .if1 .left) in
-    let alive = found-is-live _ _ _ (rw (c .before .before .before .before .before .before .before .before .before .before .before .before .before .before .before .before .number-meant .ensures, c .before .before .before .before .before .before .before .before .before .before .before .before .before .before .before .before .before .word2 .ensures) at (sym (c .before .before .before .before .before .before .before .before .before .before .before .before .before .before .job-at .ensures) ∙ c .before .before .before .before .before .before .before .before .before .before .before .before .enum-told .given .1)) .0 in
+    let alive = rw (c .before .before .before .before .before .before .before .before .before .before .before .before .before .before .before .before .number-meant .ensures, c .before .before .before .before .before .before .before .before .before .before .before .before .before .before .before .before .before .word2 .ensures) at (sym (c .before .before .before .before .before .before .before .before .before .before .before .before .before .before .job-at .ensures) ∙ c .before .before .before .before .before .before .before .before .before .before .before .before .enum-told .given .1) in
     let long = rw (c .before .before .before .before .before .before .before .before .before .before .before .before .before .before .before .before .before .before .before .before .before .before .word .ensures) at (c .before .before .before .before .before .before .before .before .before .before .before .block-length .ensures) in
     let owner = rw (c .before .before .before .before .before .before .before .before .before .before .before .before .before .before .before .before .before .word2 .ensures) at (c .before .before .before .before .before .before .before .before .before .before .before .before .before .before .before .before .number-meant .ensures) in
-    take-there _ _ _ _ good alive long owner _ (c .before .before .before .before .before .before .before .before .before .place-in .ensures .leaves) _ _ (sym (c .before .before .before .before .before .before .before .before .before .place-in .ensures .answers) ∙ c .before .before .before .before .before .i .given .1) (c .before .before .answer-room .ensures)
+    take-there _ _ _ _ _ good alive long owner _ (c .before .before .before .before .before .before .before .before .before .place-in .ensures .leaves) _ _ (sym (c .before .before .before .before .before .before .before .before .before .place-in .ensures .answers) ∙ c .before .before .before .before .before .i .given .1) (c .before .before .answer-room .ensures)
 
 pub take-spec : {M : Type 1} → statement M
 take-spec =

@@ -7,14 +7,14 @@ use mir.Syntax.{w32}
 use mir.ValLaws.{toZ-ofZ}
 use Rattle.words.specs.Words.{word}
 use Rattle.picture.specs.Layout.{greatest-tag, upto}
-use Rattle.picture.specs.Numbers.{live, free-position}
-use Rattle.picture.specs.declared.Table.the-variants.{Jobs, Channels}
+use Rattle.picture.specs.Numbers.{job-at, free-position}
+use Rattle.picture.specs.declared.Table.the-variants.{Channels}
+use Rattle.picture.specs.declared.JobFound.the-variants.{At}
 use Rattle.picture.specs.declared.Area.the-variants.{Heap}
 use Rattle.areas.specs.Rules.{longest-queue}
 use Rattle.calls.specs.Registers.{meant}
 use Rattle.calls.proofs.Outcome.{meets-refuse}
 use Rattle.rooms.proofs.Room.{placed-there}
-use Rattle.rooms.proofs.Found.{found-is-live, dead-is-not-live}
 use Rattle.rooms.proofs.Sizes.{areas-lie-in-a-sound-picture}
 use Rattle.names.specs.Names.{key-of, good, number-in, named}
 use Rattle.opening.proofs.Ways.{open-dead, open-misnamed, open-no-position, open-no-tag, open-nowhere, open-there}
@@ -43,8 +43,8 @@ use Rattle.words.proofs.word.Reads as word-reads
 owner : (c : tie.After-number-meant) → c .number-meant .result .0 ≡ meant (c .before .before .before .before .before .before .before .args .p .now) (word (c .before .before .before .before .before .before .before .args .d .now) 1)
 owner c = rw (c .before .word .ensures) at (c .number-meant .ensures)
 
-lives : (c : tie.After-enum-told) → live (c .before .before .before .before .before .before .before .before .before .before .before .args .p .now) Jobs (meant (c .before .before .before .before .before .before .before .before .before .before .before .args .p .now) (word (c .before .before .before .before .before .before .before .before .before .before .before .args .d .now) 1)) ≡ true
-lives c = let j = c .before .before in found-is-live _ _ _ (rw (owner (j .before .before)) at (sym (j .job-at .ensures) ∙ c .enum-told .given .1)) .0
+lives : (c : tie.After-enum-told) → job-at (c .before .before .before .before .before .before .before .before .before .before .before .args .p .now) (meant (c .before .before .before .before .before .before .before .before .before .before .before .args .p .now) (word (c .before .before .before .before .before .before .before .before .before .before .before .args .d .now) 1)) ≡ At (c .enum-told .given .0 .0)
+lives c = let j = c .before .before in rw (owner (j .before .before)) at (sym (j .job-at .ensures) ∙ c .enum-told .given .1)
 
 -- the name is good, a position is free, a tag is left
 fair : (c : tie.Else1) → good (named (c .before .before .before .before .before .before .before .before .before .before .before .before .before .before .args .name .now)) ≡ true
@@ -87,7 +87,7 @@ same-length-2 : tie.Need-same-length-2
 same-length-2 c = search needs
 
 returns : tie.Need-returns
-returns c = let j = c .before .before in meets-refuse _ _ _ _ (open-dead _ _ _ (dead-is-not-live _ _ (rw (owner (j .before .before)) at (sym (j .job-at .ensures) ∙ c .enum-told2 .given .1))))
+returns c = let j = c .before .before in meets-refuse _ _ _ _ (open-dead _ _ _ (rw (owner (j .before .before)) at (sym (j .job-at .ensures) ∙ c .enum-told2 .given .1)))
 
 read-name-requires : tie.Need-read-name-requires
 read-name-requires c κs = search needs
@@ -106,7 +106,7 @@ same-length-4 c = search needs
 
 returns-2 : tie.Need-returns-2
 returns-2 c = let t = c .before in let g = t .before in let r = g .before in
-    open-misnamed _ _ _ (lives (r .before)) _ (rw (r .read-name .ensures) at (sym (g .is-good .ensures) ∙ not-true _ (t .if1 .taken))) (toZ-ofZ w32 (c .key-of .result) (record { sfits = c .key-of .ok }) ∙ c .key-of .ensures ∙ ap key-of (r .read-name .ensures))
+    open-misnamed _ _ _ _ (lives (r .before)) _ (rw (r .read-name .ensures) at (sym (g .is-good .ensures) ∙ not-true _ (t .if1 .taken))) (toZ-ofZ w32 (c .key-of .result) (record { sfits = c .key-of .ok }) ∙ c .key-of .ensures ∙ ap key-of (r .read-name .ensures))
 
 free-position-requires : tie.Need-free-position-requires
 free-position-requires c κs = search needs
@@ -119,7 +119,7 @@ same-length-6 c = search needs
 
 returns-3 : tie.Need-returns-3
 returns-3 c = let f = c .before in let x = f .before .before in
-    meets-refuse _ _ _ _ (open-no-position _ _ _ (lives (x .before .before .before)) (fair x) (rw (f .free-position .ensures .0) at (c .if2 .taken)))
+    meets-refuse _ _ _ _ (open-no-position _ _ _ _ (lives (x .before .before .before)) (fair x) (rw (f .free-position .ensures .0) at (c .if2 .taken)))
 
 last-of-requires : tie.Need-last-of-requires
 last-of-requires c κs = search needs
@@ -135,7 +135,7 @@ same-length-8 c = search needs
 
 returns-4 : tie.Need-returns-4
 returns-4 c = let w = c .before in let y = w .before .before .before in let x = y .before .before .before in
-    meets-refuse _ _ _ _ (open-no-tag _ _ _ (lives (x .before .before .before)) (fair x) (free y) (rw (w .word2 .ensures, w .before .last-of .ensures) at (c .if3 .taken)))
+    meets-refuse _ _ _ _ (open-no-tag _ _ _ _ (lives (x .before .before .before)) (fair x) (free y) (rw (w .word2 .ensures, w .before .last-of .ensures) at (c .if3 .taken)))
 
 number-in-requires : tie.Need-number-in-requires
 number-in-requires c κs = search needs
@@ -166,7 +166,7 @@ same-length-10 c = search needs
 
 returns-5 : tie.Need-returns-5
 returns-5 c = let P = c .before .before .before .before in let u = P .before .before in let n = u .before in let z = n .before in let w = z .before in let y = w .before .before .before in let x = y .before .before .before in let r = x .before .before in
-    open-nowhere _ _ _ (lives (r .before)) (fair x) (free y) (tagged z) (n .number-in .result) _ _ (n .number-in .ensures ∙ ap number-in (r .read-name .ensures)) (owner (r .before .before .before .before .before)) (u .round-up .ensures) _ (P .place-in .ensures .leaves) (sym (P .place-in .ensures .answers) ∙ c .enum-told3 .given .1)
+    open-nowhere _ _ _ _ (lives (r .before)) (fair x) (free y) (tagged z) (n .number-in .result) _ _ (n .number-in .ensures ∙ ap number-in (r .read-name .ensures)) (owner (r .before .before .before .before .before)) (u .round-up .ensures) _ (P .place-in .ensures .leaves) (sym (P .place-in .ensures .answers) ∙ c .enum-told3 .given .1)
 
 add-put : tie.Need-add-put
 add-put c = omega (arith, below (c .before))
@@ -199,7 +199,7 @@ same-length-12 c = search needs
 returns-6 : tie.Need-returns-6
 returns-6 c = let a = c .before .before in let m = a .before in let E = m .before .before .before .before in let U = E .before .before .before .before in let K = U .before .before in
     let P = K .before .before .before .before .before in let u = P .before .before in let n = u .before in let z = n .before in let w = z .before in let y = w .before .before .before in let f = y .before in let x = f .before .before in let r = x .before .before in
-    open-there _ _ _ (lives (r .before)) (fair x) (free y) (tagged z) (n .number-in .result) _ _ (n .number-in .ensures ∙ ap number-in (r .read-name .ensures)) (owner (r .before .before .before .before .before)) (u .round-up .ensures) _ (P .place-in .ensures .leaves)
+    open-there _ _ _ _ (lives (r .before)) (fair x) (free y) (tagged z) (n .number-in .result) _ _ (n .number-in .ensures ∙ ap number-in (r .read-name .ensures)) (owner (r .before .before .before .before .before)) (u .round-up .ensures) _ (P .place-in .ensures .leaves)
     (K .before .i .given .0 .0) _ _ (sym (P .place-in .ensures .answers) ∙ K .before .i .given .1)
     (E .enter-channel .ensures ∙ rw (U .put .ensures, f .free-position .ensures .0, w .word2 .ensures, w .before .last-of .ensures))
     (a .answer-channel .ensures ∙ rw (m .number-of .ensures, f .free-position .ensures .0, w .word2 .ensures, w .before .last-of .ensures))

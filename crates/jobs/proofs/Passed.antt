@@ -1,0 +1,44 @@
+-- What holds of every refusal, and of what a call does where its checks pass, holds of the call: a law for each call, with what its checks say.
+use Prim.Native.Nat.{ℕ}
+use mathlib.Core.Path.{_≡_}
+use mathlib.Core.Bool.{true, false, _&&_}
+use mathlib.Core.List.{List}
+use lib.Dec.{eqb}
+use lib.IntN.{ℤ}
+use borrow.Author.Tests.{not-true}
+use Rattle.picture.specs.Records.{active}
+use Rattle.picture.specs.Numbers.{position, live}
+use Rattle.picture.specs.declared.Table.the-variants.{Jobs}
+use Rattle.timeouts.specs.Timeout.{timeout-in, longword}
+use Rattle.calls.specs.Outcome.{Outcome, refuse, succeed}
+use Rattle.calls.specs.Call.{outcome}
+use Rattle.calls.specs.Registers.{D2, D3, A1, caller}
+use Rattle.calls.specs.Writes.{with-nobody}
+use Rattle.calls.proofs.Call.{of-each-way}
+use Rattle.calls.proofs.Found.{job-that-passes-is-live}
+use Rattle.effects.specs.Effects.{naming, suspends, suspended, released, low-byte, priority-good, activity-good, prioritized, may-wait, waiting}
+use Rattle.jobs.specs.Calls.{job, job-position, suspend, release, activate, set-priority}
+
+module _ (P : Outcome → Type 0) (p d : List ℕ) (refused : (k : ℤ) → P (refuse k p d)) where
+  abbrev Lives : Type 0
+  Lives = live p Jobs (job p d) ≡ true
+
+  abbrev Leaves : List ℕ → Type 0
+  Leaves q = P (succeed (with-nobody q) (naming (job p d) (job-position p d) d))
+
+  pub suspend-ways : (Lives → suspends (timeout-in (D3 d)) && eqb (A1 d) 0 ≡ true → Leaves (suspended p (job-position p d) (longword (timeout-in (D3 d))))) → P (outcome suspend p d)
+  unfolding suspend
+  suspend-ways f = of-each-way suspend p d P refused (λ h. f (job-that-passes-is-live p (job p d) (h .0)) (h .1 .0))
+
+  pub release-ways : (Lives → Leaves (released p (job-position p d))) → P (outcome release p d)
+  unfolding release
+  release-ways f = of-each-way release p d P refused (λ h. f (job-that-passes-is-live p (job p d) (h .0)))
+
+  pub activate-ways : (Lives → active p (job-position p d) ≡ false → activity-good (low-byte (D2 d)) ≡ true → may-wait (timeout-in (D3 d)) (job p d) ≡ true
+      → Leaves (waiting (prioritized p (job-position p d) (low-byte (D2 d))) (timeout-in (D3 d)) (position (caller p)) (job p d))) → P (outcome activate p d)
+  unfolding activate
+  activate-ways f = of-each-way activate p d P refused (λ h. f (job-that-passes-is-live p (job p d) (h .0)) (not-true _ (h .1 .0)) (h .1 .1 .0) (h .1 .1 .1 .0))
+
+  pub set-priority-ways : (Lives → priority-good (low-byte (D2 d)) ≡ true → Leaves (prioritized p (job-position p d) (low-byte (D2 d)))) → P (outcome set-priority p d)
+  unfolding set-priority
+  set-priority-ways f = of-each-way set-priority p d P refused (λ h. f (job-that-passes-is-live p (job p d) (h .0)) (h .1 .0))
