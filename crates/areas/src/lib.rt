@@ -1,11 +1,19 @@
 // Rules of soundness for the blocks of the two areas, a function each.
 use blocks::FREE;
+use blocks::HOLDER;
+use blocks::KIND;
 use blocks::QUEUE;
+use blocks::QUEUE_COUNT;
+use blocks::QUEUE_LENGTH;
+use blocks::QUEUE_OLDEST;
+use blocks::QUEUE_ZERO;
+use blocks::START;
 use tables::word_at;
 use words::word;
 ghost use mathlib.Core.Path.{_≡_};
 ghost use Prim.Native.Nat.{_+_, _<_, _≤_};
 ghost use lib.ListN.{length};
+ghost use Rattle.blocks.specs.Header.{start-field as startField};
 ghost use Rattle.areas.specs.Rules.{tiles, untouched, length-whole as lengthWhole};
 ghost use Rattle.areas.specs.Rules.{free-blank as freeBlank, queue-room as queueRoom};
 
@@ -22,10 +30,10 @@ pub fn length_whole(p: &[u32], i: usize) -> bool
 
 // A free header is length, 0, 0, 0.
 pub fn free_blank(p: &[u32], i: usize) -> bool
-    requires { ⌜ i + 3 < length (now p) ⌝ }
+    requires { ⌜ i + startField < length (now p) ⌝ }
     ensures { λ r. ⌜ r ≡ freeBlank (now (p .entry)) i ⌝ }
 {
-    (word_at(p, i + 1) != FREE) | ((word_at(p, i + 2) == 0) & (word_at(p, i + 3) == 0))
+    (word_at(p, i + KIND) != FREE) | ((word_at(p, i + HOLDER) == 0) & (word_at(p, i + START) == 0))
 }
 
 // A queue's room has its length, index of the oldest byte, count and 0.
@@ -33,15 +41,15 @@ pub fn queue_room(p: &[u32], i: usize) -> bool
     requires { ⌜ i < 8589934592 ⌝ }
     ensures { λ r. ⌜ r ≡ queueRoom (now (p .entry)) i ⌝ }
 {
-    if word(p, i + 1) != QUEUE {
+    if word(p, i + KIND) != QUEUE {
         return true;
     }
-    let n = word(p, i + 4) as usize;
+    let n = word(p, i + QUEUE_LENGTH) as usize;
     (1 <= n)
         & ((n <= LONGEST_QUEUE)
             & ((word(p, i) as usize == (32 + n + 15) / 16 * 16)
-                & (((word(p, i + 5) as usize) < n)
-                    & ((word(p, i + 6) as usize <= n) & (word(p, i + 7) == 0)))))
+                & (((word(p, i + QUEUE_OLDEST) as usize) < n)
+                    & ((word(p, i + QUEUE_COUNT) as usize <= n) & (word(p, i + QUEUE_ZERO) == 0)))))
 }
 
 // The block ends within its area.
@@ -58,5 +66,5 @@ pub fn is_untouched(p: &[u32], e: usize, i: usize) -> bool
     ensures { λ r. ⌜ r ≡ untouched (now (p .entry)) e i ⌝ }
 {
     let next = blocks::next_block(p, i, e);
-    (word(p, i + 1) != FREE) | ((e <= next) | (word(p, next + 1) != FREE))
+    (word(p, i + KIND) != FREE) | ((e <= next) | (word(p, next + KIND) != FREE))
 }

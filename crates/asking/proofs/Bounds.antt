@@ -24,7 +24,7 @@ claims-other : (p : List ℕ) (k : ℕ) → used p Jobs k ≡ true → 0 < k →
 unfolding claims
 claims-other p k u l = rw (le-leb 1 k l, u)
 
-pub base-within : (p : List ℕ) (k : ℕ) → sound p ≡ true → used p Jobs k ≡ true → base p Jobs k < 65536
+pub base-within : (p : List ℕ) (k : ℕ) → sound p ≡ true → used p Jobs k ≡ true → base p Jobs k < 4 * greatest-size
 base-within p k s u = ⊎-elim
     (λ (l : 0 < k).
     let h = S .matched Jobs .home k (used-below p Jobs k u) (claims-other p k u l) in

@@ -10,8 +10,8 @@ use words::put;
 use words::word;
 ghost use mathlib.Core.Path.{_≡_};
 ghost use mathlib.Core.Bool.{true};
-ghost use Prim.Native.Nat.{_≤_, _<_};
-ghost use Rattle.picture.specs.Layout.{greatest-size as greatestSize};
+ghost use Prim.Native.Nat.{_*_, _≤_, _<_};
+ghost use Rattle.picture.specs.Layout.{positions, greatest-size as greatestSize};
 ghost use Rattle.picture.specs.Records.{base, priority};
 ghost use Rattle.picture.specs.declared.Table.the-variants.{Jobs};
 ghost use Rattle.picture.specs.Layout.{greatest-priority as greatestPriority};
@@ -29,11 +29,11 @@ const HEADER_BYTES: u32 = 16;
 
 // The job at position k is a member of the mask, has a greater tag than `tag`, and a smaller one than the job n; 0 is none.
 fn is_nearer(p: &[u32], mask: u32, tag: u32, n: u32, k: usize) -> bool
-    requires { ⌜ k < 32 ⌝ }
+    requires { ⌜ k < positions Jobs ⌝ }
     ensures { λ r. ⌜ r ≡ nearer (now (p .entry)) mask tag n k ⌝ }
 {
-    let own = field_of(p, Table::Jobs, k, picture::NUMBER) / 65536;
-    words::is_set(mask, k) & ((tag < own) & ((n == 0) | (own < n / 65536)))
+    let own = picture::tag_of(field_of(p, Table::Jobs, k, picture::NUMBER));
+    words::is_set(mask, k) & ((tag < own) & ((n == 0) | (own < picture::tag_of(n))))
 }
 
 // The number of the member of the mask with the next tag after `tag`, or 0.
@@ -51,7 +51,7 @@ pub fn next_member(p: &[u32], mask: u32, tag: u32) -> u32
 
 // $FF000000 if the job at position k is suspended, plus its priority.
 fn standing_of(p: &[u32], k: usize) -> u32
-    requires { ⌜ (k < 32) × (priority (now p) k ≤ greatestPriority) ⌝ }
+    requires { ⌜ (k < positions Jobs) × (priority (now p) k ≤ greatestPriority) ⌝ }
     ensures { λ r. ⌜ r ≡ standing (now (p .entry)) k ⌝ }
 {
     let priority = field_of(p, Table::Jobs, k, picture::PRIORITY);
@@ -63,7 +63,7 @@ fn standing_of(p: &[u32], k: usize) -> u32
 
 // The first byte of the room of the job at position k, 0 for job 0.
 fn room_of(p: &[u32], k: usize) -> u32
-    requires { ⌜ (k < 32) × (base (now p) Jobs k < 65536) ⌝ }
+    requires { ⌜ (k < positions Jobs) × (base (now p) Jobs k < 4 * greatestSize) ⌝ }
     ensures { λ r. ⌜ r ≡ room (now (p .entry)) k ⌝ }
 {
     if k == 0 {
@@ -74,10 +74,10 @@ fn room_of(p: &[u32], k: usize) -> u32
 
 // The registers answer for the job at position k in the tree of the job at position t.
 fn answer(p: &[u32], d: &mut [u32], t: usize, k: usize)
-    requires { ⌜ (k < 32) × ((priority (now p) k ≤ greatestPriority) × (base (now p) Jobs k < 65536)) ⌝ }
+    requires { ⌜ (k < positions Jobs) × ((priority (now p) k ≤ greatestPriority) × (base (now p) Jobs k < 4 * greatestSize)) ⌝ }
     ensures { λ _. ⌜ now (d .exit) ≡ answered (now (p .entry)) (now (d .entry)) t k ⌝ }
 {
-    let tag = field_of(p, Table::Jobs, k, picture::NUMBER) / 65536;
+    let tag = picture::tag_of(field_of(p, Table::Jobs, k, picture::NUMBER));
     put(d, calls::D1, next_member(p, tree::tree_of(p, t), tag));
     put(d, calls::D2, field_of(p, Table::Jobs, k, picture::OWNER));
     put(d, calls::D3, standing_of(p, k));

@@ -15,8 +15,25 @@ pub const QUEUE: u32 = 2;
 
 pub const JOB: u32 = 3;
 
-// The longwords of a header.
+// The longwords of a header, and where they stand in a block after the first, its length.
 pub const HEADER: usize = 4;
+
+pub const KIND: usize = 1;
+
+pub const HOLDER: usize = 2;
+
+pub const START: usize = 3;
+
+// Where a queue's length, the index of its oldest byte, its count, 0 and its bytes stand in its block.
+pub const QUEUE_LENGTH: usize = 4;
+
+pub const QUEUE_OLDEST: usize = 5;
+
+pub const QUEUE_COUNT: usize = 6;
+
+pub const QUEUE_ZERO: usize = 7;
+
+pub const QUEUE_BYTES: usize = 8;
 
 // The kind of the blocks that a table's entries have.
 pub fn kind_of(t: Table) -> u32

@@ -1,9 +1,9 @@
 -- "Registers are lent as eight longwords, D0 to D3, A0 to A3."
-use Prim.Native.Nat.{ℕ, _%_}
+use Prim.Native.Nat.{ℕ}
 use mathlib.Core.Bool.{cond}
 use mathlib.Core.List.{List}
-use lib.Dec.{leb}
 use Rattle.words.specs.Words.{word, put, clear}
+use Rattle.words.specs.Bits.{bit}
 use Rattle.picture.specs.Layout.{current-word}
 
 abbrev pub D1 : List ℕ → ℕ
@@ -47,4 +47,4 @@ caller p = word p current-word
 
 -- "a number whose low word has bit 15 set means the current job"
 unfoldable pub meant : List ℕ → ℕ → ℕ
-meant p n = cond (leb 32768 (n % 65536)) (caller p) n
+meant p n = cond (bit n 15) (caller p) n

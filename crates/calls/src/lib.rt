@@ -4,9 +4,10 @@ use picture::Table;
 use words::word;
 ghost use mathlib.Core.Path.{_≡_};
 ghost use Prim.Native.Nat.{_<_};
-ghost use Rattle.picture.specs.Layout.{positions};
+ghost use Rattle.picture.specs.Layout.{positions, width};
+ghost use Rattle.picture.specs.Records.{with-field as withField};
 ghost use Rattle.calls.specs.Registers.{meant, caller};
-ghost use Rattle.calls.specs.Writes.{with-field as withField, with-nobody as withNobody};
+ghost use Rattle.calls.specs.Writes.{with-nobody as withNobody};
 
 // The registers' places.
 pub const D0: usize = 0;
@@ -34,7 +35,7 @@ pub fn caller_of(p: &[u32]) -> u32
 pub fn number_meant(p: &[u32], n: u32) -> JobNumber
     ensures { λ r. ⌜ r .0 ≡ meant (now (p .entry)) n ⌝ }
 {
-    if 32768 <= n % 65536 {
+    if words::is_set(n, 15) {
         return JobNumber(caller_of(p));
     }
     JobNumber(n)
@@ -42,7 +43,7 @@ pub fn number_meant(p: &[u32], n: u32) -> JobNumber
 
 // Stores v in field f of the record of position k.
 pub fn put_field(p: &mut [u32], t: Table, k: usize, f: usize, v: u32)
-    requires { ⌜ (k < positions t) × (f < 8) ⌝ }
+    requires { ⌜ (k < positions t) × (f < width t) ⌝ }
     ensures { λ _. ⌜ now (p .exit) ≡ withField (now (p .entry)) t k f v ⌝ }
 {
     words::put(p, picture::slot_of(t, k) + f, v);

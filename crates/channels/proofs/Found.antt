@@ -39,16 +39,16 @@ pub record Named (p : List ℕ) (n k : ℕ) : Type 0 where
   pub finds : channel-at p n ≡ At k
   pub lives : live p Channels n ≡ true
   pub place : position n ≡ k
-  pub below : k < 32
+  pub below : k < positions Channels
 
-pub live-below : (p : List ℕ) (n : ℕ) → live p Channels n ≡ true → position n < 32
+pub live-below : (p : List ℕ) (n : ℕ) → live p Channels n ≡ true → position n < positions Channels
 live-below p n h = used-below p Channels (position n) (live-is p Channels n h .used)
 
 pub channel-found : (p : List ℕ) (n k : ℕ) → channel-at p n ≡ At k → Named p n k
 unfolding channel-at
 channel-found p n k h =
     let r = at-case (live p Channels n) (position n) k h in
-    record { finds = h; lives = r .0; place = r .1; below = subst (λ (x : ℕ). x < 32) (r .1) (live-below p n (r .0)) }
+    record { finds = h; lives = r .0; place = r .1; below = subst (λ (x : ℕ). x < positions Channels) (r .1) (live-below p n (r .0)) }
 
 -- the queue at i is that of the channel at position k
 pub record Held (p : List ℕ) (k i : ℕ) : Type 0 where

@@ -1,9 +1,9 @@
 -- The queue of a channel, what closing a channel does to the picture, and the timeout of a call.
-use Prim.Native.Nat.{ℕ, _/_, _%_}
+use Prim.Native.Nat.{ℕ, _/_}
 use mathlib.Core.Bool.{Bool}
 use mathlib.Core.List.{List}
 use lib.Dec.{eqb}
-use Rattle.words.specs.Words.{word, put, clear}
+use Rattle.words.specs.Words.{word, put, clear, low-word}
 use Rattle.picture.specs.Layout.{mask-word, width, from, upto}
 use Rattle.picture.specs.Records.{slot, base}
 use Rattle.picture.specs.declared.Table.{Table}
@@ -27,4 +27,4 @@ closed p k = forgotten (swept p (from p Heap) (upto p Heap) 0 (queue-of p k)) Ch
 
 -- "D3's low word 0"
 unfoldable pub immediate : List ℕ → Bool
-immediate d = eqb (D3 d % 65536) 0
+immediate d = eqb (low-word (D3 d)) 0

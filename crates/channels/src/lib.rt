@@ -10,6 +10,7 @@ ghost use mathlib.Core.Bool.{true};
 ghost use Prim.Native.Nat.{_<_, _≤_};
 ghost use Rattle.picture.specs.Layout.{positions, greatest-size as greatestSize, upto};
 ghost use Rattle.picture.specs.declared.Area.the-variants.{Heap};
+ghost use Rattle.picture.specs.declared.Table.the-variants.{Channels};
 ghost use Rattle.picture.specs.Numbers.{channel-at as channelAt};
 ghost use Rattle.calls.specs.Registers.{A0};
 ghost use Rattle.sound.specs.Sound.{sound};
@@ -34,7 +35,7 @@ pub fn channel_named(p: &[u32], d: &[u32]) -> ChannelFound
 
 // The queue of the channel at position k: its block.
 pub fn queue_at(p: &[u32], k: usize) -> usize
-    requires { ⌜ k < 32 ⌝ }
+    requires { ⌜ k < positions Channels ⌝ }
     ensures { λ r. ⌜ (r ≡ queueOf (now (p .entry)) k) × (r < 1073741824) ⌝ }
 {
     picture::field_of(p, Table::Channels, k, picture::BASE) as usize / 4
@@ -54,7 +55,7 @@ pub fn forget(p: &mut [u32], t: Table, k: usize)
 
 // The channel at position k is gone.
 pub fn remove_channel(p: &mut [u32], k: usize)
-    requires { ⌜ (k < 32) × (upto (now p) Heap ≤ greatestSize) ⌝ }
+    requires { ⌜ (k < positions Channels) × (upto (now p) Heap ≤ greatestSize) ⌝ }
     ensures { λ _. ⌜ now (p .exit) ≡ closed (now (p .entry)) k ⌝ }
 {
     let block = queue_at(p, k);

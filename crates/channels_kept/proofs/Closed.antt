@@ -12,8 +12,8 @@ use Rattle.words.specs.Words.{word}
 use Rattle.words.specs.Bits.{bit}
 use Rattle.words.specs.Each.{In}
 use Rattle.words.proofs.Tests.{both, false-true, lt-or-ge}
-use Rattle.picture.specs.Layout.{heap-base, heap-word, size-word, zero-word, last-word, mask-word, greatest-tag, positions, width, from, upto}
-use Rattle.picture.specs.Records.{slot, field, number, owner, base, ending, used}
+use Rattle.picture.specs.Layout.{heap-base, heap-word, size-word, zero-word, last-word, mask-word, greatest-tag, positions, width, from, upto, first-record, current-word}
+use Rattle.picture.specs.Records.{slot, field, number, owner, base, ending, used, number-field, owner-field, ending-field}
 use Rattle.picture.specs.Numbers.{tag, position, live}
 use Rattle.picture.specs.declared.Table.{Table}
 use Rattle.picture.specs.declared.Table.the-variants.{Jobs, Channels}
@@ -21,7 +21,7 @@ use Rattle.picture.specs.declared.Area.{Area}
 use Rattle.picture.specs.declared.Area.the-variants.{Heap, Transient}
 use Rattle.picture.proofs.Records.{slot-within, used-below, used-is}
 use Rattle.picture.proofs.Numbers.{Live, live-is, is-live}
-use Rattle.blocks.specs.Header.{kind, kind-of, queue-kind, free}
+use Rattle.blocks.specs.Header.{kind-field, kind, kind-of, queue-kind, free}
 use Rattle.blocks.specs.Walk.{starts, blocks}
 use Rattle.headers.specs.Area.{Outside}
 use Rattle.matching.specs.Match.{first, area-of, claims}
@@ -70,7 +70,7 @@ module _ (p : List ℕ) (n : ℕ) (s : sound p ≡ true) (l : live p Channels n 
   H : Held p k at
   H = live-queue p n s l
 
-  there : k < 32
+  there : k < positions Channels
   there = live-below p n l
 
   -- first the block
@@ -88,7 +88,7 @@ module _ (p : List ℕ) (n : ℕ) (s : sound p ≡ true) (l : live p Channels n 
   areas : (j : ℕ) → heap-base ≤ j → word q j ≡ word r j
   areas j h = let w = slot-within Channels k there in F .other j (inr (omega arith)) (λ e. omega arith)
 
-  low : (j : ℕ) → j < 264 → (j ≡ 6 → ⊥) → word q j ≡ word p j
+  low : (j : ℕ) → j < first-record Channels → (j ≡ mask-word Channels → ⊥) → word q j ≡ word p j
   low j h m = F .other j (inl (omega arith)) m ∙ block-tables .words j (omega arith)
 
   pub closed-change : Change p q Heap None (Only at)
@@ -102,14 +102,14 @@ module _ (p : List ℕ) (n : ℕ) (s : sound p ≡ true) (l : live p Channels n 
     fields = λ j f a b. low (slot Jobs j + f) (omega arith) (λ e. omega arith);
     mask = low (mask-word Jobs) (omega arith) (λ e. omega arith);
     last = low (last-word Jobs) (omega arith) (λ e. omega arith);
-    current = low 1 (omega arith) (λ e. omega arith);
+    current = low current-word (omega arith) (λ e. omega arith);
   }
 
   lives : Lives p q
   lives = jobs-live p q jobs-same
 
   -- the other channels
-  pub field-old : (j f : ℕ) → j < 32 → f < 4 → (j ≡ k → ⊥) → field q Channels j f ≡ field p Channels j f
+  pub field-old : (j f : ℕ) → j < positions Channels → f < width Channels → (j ≡ k → ⊥) → field q Channels j f ≡ field p Channels j f
   field-old j f a b m = F .other (slot Channels j + f) (away (lt-or-ge j k)) (λ e. omega arith) ∙ block-tables .words (slot Channels j + f) (let w = slot-within Channels j a in omega arith)
     where
       away : (j < k) ⊎ (k ≤ j) → Outside (slot Channels k) (slot Channels k + width Channels) (slot Channels j + f)
@@ -122,7 +122,7 @@ module _ (p : List ℕ) (n : ℕ) (s : sound p ≡ true) (l : live p Channels n 
   pub used-gone : used q Channels k ≡ false
   used-gone = used-is q Channels k there ∙ ap (λ (x : ℕ). bit x k) mask-here ∙ without-bit-here (word p (mask-word Channels)) k
 
-  used-other : (j : ℕ) → j < 32 → (j ≡ k → ⊥) → used q Channels j ≡ used p Channels j
+  used-other : (j : ℕ) → j < positions Channels → (j ≡ k → ⊥) → used q Channels j ≡ used p Channels j
   used-other j a m = used-is q Channels j a ∙ ap (λ (x : ℕ). bit x j) mask-here ∙ without-bit-other (word p (mask-word Channels)) k j m ∙ sym (used-is p Channels j a)
 
   still-old : (j : ℕ) → used q Channels j ≡ true → (j ≡ k → ⊥) × (used p Channels j ≡ true)
@@ -135,13 +135,13 @@ module _ (p : List ℕ) (n : ℕ) (s : sound p ≡ true) (l : live p Channels n 
   entries =
       let E = S .channels .entries in
       let w = low (last-word Channels) (omega arith) (λ e. omega arith) in
-      let num : (j : ℕ) → used q Channels j ≡ true → number q Channels j ≡ number p Channels j = λ j u. field-old j 0 (used-below q Channels j u) (omega arith) (still-old j u .0) in
+      let num : (j : ℕ) → used q Channels j ≡ true → number q Channels j ≡ number p Channels j = λ j u. field-old j number-field (used-below q Channels j u) (omega arith) (still-old j u .0) in
       record {
         unused = λ j f a b u. unused-now j f a b u;
         place = λ j u. rw (num j u) (E .place j (still-old j u .1));
         tagged = λ j c. let u = claims-used q Channels j c in rw (num j u) (E .tagged j (rw (both (leb (first Channels) j) (used q Channels j) c .0, still-old j u .1)));
         once = λ i j u v e. E .once i j (still-old i u .1) (still-old j v .1) (rw (num i u, num j v) at e);
-        owned = λ j u. rw (field-old j 1 (used-below q Channels j u) (omega arith) (still-old j u .0)) (owned-kept p q false (owner p Channels j) lives (E .owned j (still-old j u .1)));
+        owned = λ j u. rw (field-old j owner-field (used-below q Channels j u) (omega arith) (still-old j u .0)) (owned-kept p q false (owner p Channels j) lives (E .owned j (still-old j u .1)));
         given = λ j u. rw (num j u, w) (E .given j (still-old j u .1));
       }
     where
@@ -157,7 +157,7 @@ module _ (p : List ℕ) (n : ℕ) (s : sound p ≡ true) (l : live p Channels n 
           go (inr x) (inr y) = let e : j ≡ k = omega arith in rw e (F .its-fields f b)
 
   channels : Channels-fine q
-  channels = record { entries = entries; one = λ j u. field-old j 3 (used-below q Channels j u) (omega arith) (still-old j u .0) ∙ S .channels .one j (still-old j u .1) }
+  channels = record { entries = entries; one = λ j u. field-old j ending-field (used-below q Channels j u) (omega arith) (still-old j u .0) ∙ S .channels .one j (still-old j u .1) }
 
   -- entries and blocks
   abbrev NoPair : ℕ → ℕ → Type 0
@@ -188,7 +188,7 @@ module _ (p : List ℕ) (n : ℕ) (s : sound p ≡ true) (l : live p Channels n 
       let h = H .low in
       let w = starts-between r q (from p Heap) (upto p Heap) (λ j a b. areas j (omega arith)) in
       let v : In at (starts r (from p Heap) (upto p Heap)) = rw (closed-change .ends Heap, w) at m in
-      let y : kind r at ≡ queue-kind = sym (areas (at + 1) (omega arith)) ∙ z in
+      let y : kind r at ≡ queue-kind = sym (areas (at + kind-field) (omega arith)) ∙ z in
       let o = swept-facts p Heap at (S .tiled Heap) (lies Heap) .only at v (ne-eqb (kind r at) 0 (λ e. omega arith)) in
       false-true (sym (o .1 .1) ∙ the-block-at-a-goes p at (o .1 .0))
 

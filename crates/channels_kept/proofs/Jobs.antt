@@ -7,8 +7,8 @@ use mathlib.Core.List.{List}
 use lib.ListN.{length}
 use native.Mathlib.Omega.{arith}
 use Rattle.words.specs.Words.{word}
-use Rattle.picture.specs.Layout.{size-word, current-word, last-word, greatest-tag, heap-word, zero-word, mask-word, positions}
-use Rattle.picture.specs.Records.{field, waited-for, used, ready}
+use Rattle.picture.specs.Layout.{size-word, current-word, last-word, greatest-tag, heap-word, zero-word, mask-word, positions, width}
+use Rattle.picture.specs.Records.{field, waited-for, used, ready, accumulated-field, base-field, number-field, owner-field, priority-field, timeout-field, wait-field}
 use Rattle.picture.specs.Numbers.{position, live}
 use Rattle.picture.specs.declared.Table.{Table}
 use Rattle.picture.specs.declared.Table.the-variants.{Jobs}
@@ -19,21 +19,21 @@ use Rattle.facts.proofs.Same.{used-same, claims-same, live-same, Lives, Entries
 use Rattle.facts.proofs.Ages.{Ages, ages-same}
 
 pub record JobsSame (p q : List ℕ) : Type 0 where
-  pub fields : (k f : ℕ) → k < positions Jobs → f < 8 → field q Jobs k f ≡ field p Jobs k f
+  pub fields : (k f : ℕ) → k < positions Jobs → f < width Jobs → field q Jobs k f ≡ field p Jobs k f
   pub mask : word q (mask-word Jobs) ≡ word p (mask-word Jobs)
   pub last : word q (last-word Jobs) ≡ word p (last-word Jobs)
   pub current : word q current-word ≡ word p current-word
 
 module _ (p q : List ℕ) (s : JobsSame p q) where
   pub jobs-live : Lives p q
-  jobs-live n h = live-same p q Jobs (s .mask) (λ k l. s .fields k 0 l (omega arith)) n ∙ h
+  jobs-live n h = live-same p q Jobs (s .mask) (λ k l. s .fields k number-field l (omega arith)) n ∙ h
 
   pub jobs-age : Ages p q Jobs
-  jobs-age = ages-same p q Jobs (s .last) (s .mask) (λ k l. s .fields k 0 l (omega arith))
+  jobs-age = ages-same p q Jobs (s .last) (s .mask) (λ k l. s .fields k number-field l (omega arith))
 
   ready-same : (k : ℕ) → k < positions Jobs → ready q k ≡ ready p k
   unfolding ready
-  ready-same k l = rw (s .fields k 3 l (omega arith), s .fields k 5 l (omega arith))
+  ready-same k l = rw (s .fields k priority-field l (omega arith), s .fields k timeout-field l (omega arith))
 
   pub jobs-kept : Jobs-fine p → Jobs-fine q
   jobs-kept J =
@@ -41,27 +41,27 @@ module _ (p q : List ℕ) (s : JobsSame p q) where
       let u : (k : ℕ) → used q Jobs k ≡ true → used p Jobs k ≡ true = λ k h. sym (used-same p q Jobs (s .mask) k) ∙ h in
       record {
         entries = entries-same p q Jobs
-            (record { mask = s .mask; last = s .last; numbers = λ k l. F k 0 l (omega arith); owners = λ k l. F k 1 l (omega arith) })
+            (record { mask = s .mask; last = s .last; numbers = λ k l. F k number-field l (omega arith); owners = λ k l. F k owner-field l (omega arith) })
             jobs-live
             (λ k f l m v. F k f l m ∙ J .entries .unused k f l m (sym (used-same p q Jobs (s .mask) k) ∙ v))
             (J .entries);
         zero-lives = used-same p q Jobs (s .mask) 0 ∙ J .zero-lives;
-        zero-number = F 0 0 (omega arith) (omega arith) ∙ J .zero-number;
-        zero-base = F 0 2 (omega arith) (omega arith) ∙ J .zero-base;
-        zero-unowned = F 0 1 (omega arith) (omega arith) ∙ J .zero-unowned;
-        urgent = λ k l. rw (F k 3 l (omega arith)) (J .urgent k l);
-        gained = λ k l. rw (F k 4 l (omega arith)) (J .gained k l);
-        frames = λ k l. rw (F k 5 l (omega arith)) (J .frames k l);
-        older = λ k h. let l = used-below q Jobs k h in rw (F k 1 l (omega arith), F k 0 l (omega arith)) (J .older k (u k h));
+        zero-number = F 0 number-field (omega arith) (omega arith) ∙ J .zero-number;
+        zero-base = F 0 base-field (omega arith) (omega arith) ∙ J .zero-base;
+        zero-unowned = F 0 owner-field (omega arith) (omega arith) ∙ J .zero-unowned;
+        urgent = λ k l. rw (F k priority-field l (omega arith)) (J .urgent k l);
+        gained = λ k l. rw (F k accumulated-field l (omega arith)) (J .gained k l);
+        frames = λ k l. rw (F k timeout-field l (omega arith)) (J .frames k l);
+        older = λ k h. let l = used-below q Jobs k h in rw (F k owner-field l (omega arith), F k number-field l (omega arith)) (J .older k (u k h));
         waits = λ k l. ⊎-elim
-            (λ (e : waited-for p k ≡ 0). inl (F k 6 l (omega arith) ∙ e))
+            (λ (e : waited-for p k ≡ 0). inl (F k wait-field l (omega arith) ∙ e))
             (λ (w : Waits p k). inr (record {
-              alive = rw (F k 6 l (omega arith)) (jobs-live (waited-for p k) (w .alive));
-              other = λ e. w .other (sym (F k 6 l (omega arith)) ∙ e ∙ F k 0 l (omega arith));
-              forever = F k 5 l (omega arith) ∙ w .forever;
+              alive = rw (F k wait-field l (omega arith)) (jobs-live (waited-for p k) (w .alive));
+              other = λ e. w .other (sym (F k wait-field l (omega arith)) ∙ e ∙ F k number-field l (omega arith));
+              forever = F k timeout-field l (omega arith) ∙ w .forever;
             }))
             (J .waits k l);
-        idle = λ k l. rw (F k 4 l (omega arith), ready-same k l) (J .idle k l);
+        idle = λ k l. rw (F k accumulated-field l (omega arith), ready-same k l) (J .idle k l);
       }
 
   pub current-kept : Current p → Current q

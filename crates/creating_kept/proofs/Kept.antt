@@ -10,8 +10,8 @@ use borrow.Author.Tests.{le-leb, eqb-true}
 use Rattle.words.specs.Words.{word}
 use Rattle.words.specs.Each.{In}
 use Rattle.words.proofs.Tests.{both}
-use Rattle.picture.specs.Layout.{nobody, heap-word, size-word, zero-word, current-word, mask-word, positions}
-use Rattle.picture.specs.Records.{field, number, priority, accumulated, timeout, waited-for, used, ready}
+use Rattle.picture.specs.Layout.{nobody, heap-word, size-word, zero-word, current-word, mask-word, positions, width}
+use Rattle.picture.specs.Records.{field, number, priority, accumulated, timeout, waited-for, used, ready, accumulated-field, base-field, number-field, owner-field, priority-field, timeout-field, wait-field, ending-field}
 use Rattle.picture.specs.Records as records
 use Rattle.picture.specs.Numbers.{tag, position, live}
 use Rattle.picture.specs.declared.Table.{Table}
@@ -81,7 +81,7 @@ module _ (p d : List ℕ) (h : sound p ≡ true) (c : Checked p d) where
   lives : Lives p q
   lives = lives-in-both p q Jobs k (next-tag p Jobs) o (header-byte at) E there vacant Jobs
 
-  old : (j f : ℕ) → j < positions Jobs → f < 8 → (j ≡ k → ⊥) → field q Jobs j f ≡ field p Jobs j f
+  old : (j f : ℕ) → j < positions Jobs → f < width Jobs → (j ≡ k → ⊥) → field q Jobs j f ≡ field p Jobs j f
   old = field-old p q Jobs k (next-tag p Jobs) o (header-byte at) E there vacant
 
   apart : (j : ℕ) → used p Jobs j ≡ true → j ≡ k → ⊥
@@ -94,7 +94,7 @@ module _ (p d : List ℕ) (h : sound p ≡ true) (c : Checked p d) where
   each : (P : ℕ → Type 0) (j : ℕ) → P k → ((j ≡ k → ⊥) → P j) → P j
   each P j here other = ⊎-elim (λ (e : j ≡ k). subst P (sym e) here) other (same-or-not j k)
 
-  zero : (f : ℕ) → 3 ≤ f → f < 8 → field q Jobs k f ≡ 0
+  zero : (f : ℕ) → base-field < f → f < width Jobs → field q Jobs k f ≡ 0
   zero f l m = E .its-rest f l m
 
   not-zero : 0 ≡ k → ⊥
@@ -123,7 +123,7 @@ module _ (p d : List ℕ) (h : sound p ≡ true) (c : Checked p d) where
 
   ready-old : (j : ℕ) → j < positions Jobs → (j ≡ k → ⊥) → ready q j ≡ ready p j
   unfolding ready
-  ready-old j l n = rw (old j 3 l (omega arith) n, old j 5 l (omega arith) n)
+  ready-old j l n = rw (old j priority-field l (omega arith) n, old j timeout-field l (omega arith) n)
 
   jobs : Jobs-fine q
   jobs =
@@ -131,25 +131,25 @@ module _ (p d : List ℕ) (h : sound p ≡ true) (c : Checked p d) where
       record {
         entries = entering-keeps-the-records p q Jobs k (next-tag p Jobs) o (header-byte at) E there vacant (omega arith) (J .entries) (the.tag-left p d h c) owned;
         zero-lives = still-used p q Jobs k (next-tag p Jobs) o (header-byte at) E there vacant 0 (J .zero-lives);
-        zero-number = old 0 0 (omega arith) (omega arith) not-zero ∙ J .zero-number;
-        zero-base = old 0 2 (omega arith) (omega arith) not-zero ∙ J .zero-base;
-        zero-unowned = old 0 1 (omega arith) (omega arith) not-zero ∙ J .zero-unowned;
-        urgent = λ j l. each (λ x. priority q x ≤ greatest-priority) j (rw (zero 3 (omega arith) (omega arith)) (omega arith)) (λ n. rw (old j 3 l (omega arith) n) (J .urgent j l));
-        gained = λ j l. each (λ x. accumulated q x ≤ hold) j (rw (zero 4 (omega arith) (omega arith)) (omega arith)) (λ n. rw (old j 4 l (omega arith) n) (J .gained j l));
-        frames = λ j l. each (λ x. (timeout q x ≤ greatest-timeout) ⊎ (timeout q x ≡ nobody)) j (inl (rw (zero 5 (omega arith) (omega arith)) (omega arith))) (λ n. rw (old j 5 l (omega arith) n) (J .frames j l));
+        zero-number = old 0 number-field (omega arith) (omega arith) not-zero ∙ J .zero-number;
+        zero-base = old 0 base-field (omega arith) (omega arith) not-zero ∙ J .zero-base;
+        zero-unowned = old 0 owner-field (omega arith) (omega arith) not-zero ∙ J .zero-unowned;
+        urgent = λ j l. each (λ x. priority q x ≤ greatest-priority) j (rw (zero priority-field (omega arith) (omega arith)) (omega arith)) (λ n. rw (old j priority-field l (omega arith) n) (J .urgent j l));
+        gained = λ j l. each (λ x. accumulated q x ≤ hold) j (rw (zero accumulated-field (omega arith) (omega arith)) (omega arith)) (λ n. rw (old j accumulated-field l (omega arith) n) (J .gained j l));
+        frames = λ j l. each (λ x. (timeout q x ≤ greatest-timeout) ⊎ (timeout q x ≡ nobody)) j (inl (rw (zero timeout-field (omega arith) (omega arith)) (omega arith))) (λ n. rw (old j timeout-field l (omega arith) n) (J .frames j l));
         older = λ j u. ⊎-elim
             (λ (e : j ≡ k). subst (λ (x : ℕ). (records.owner q Jobs x ≡ nobody) ⊎ (tag (records.owner q Jobs x) < tag (number q Jobs x))) (sym e) new-older)
-            (λ (v : (j ≡ k → ⊥) × (used p Jobs j ≡ true)). let l = used-below p Jobs j (v .1) in rw (old j 1 l (omega arith) (v .0), old j 0 l (omega arith) (v .0)) (J .older j (v .1)))
+            (λ (v : (j ≡ k → ⊥) × (used p Jobs j ≡ true)). let l = used-below p Jobs j (v .1) in rw (old j owner-field l (omega arith) (v .0), old j number-field l (omega arith) (v .0)) (J .older j (v .1)))
             (cases j u);
-        waits = λ j l. each (λ x. (waited-for q x ≡ 0) ⊎ Waits q x) j (inl (zero 6 (omega arith) (omega arith))) (λ n. ⊎-elim
-            (λ (e : waited-for p j ≡ 0). inl (old j 6 l (omega arith) n ∙ e))
+        waits = λ j l. each (λ x. (waited-for q x ≡ 0) ⊎ Waits q x) j (inl (zero wait-field (omega arith) (omega arith))) (λ n. ⊎-elim
+            (λ (e : waited-for p j ≡ 0). inl (old j wait-field l (omega arith) n ∙ e))
             (λ (w : Waits p j). inr (record {
-              alive = rw (old j 6 l (omega arith) n) (lives (waited-for p j) (w .alive));
-              other = λ e. w .other (sym (old j 6 l (omega arith) n) ∙ e ∙ old j 0 l (omega arith) n);
-              forever = old j 5 l (omega arith) n ∙ w .forever;
+              alive = rw (old j wait-field l (omega arith) n) (lives (waited-for p j) (w .alive));
+              other = λ e. w .other (sym (old j wait-field l (omega arith) n) ∙ e ∙ old j number-field l (omega arith) n);
+              forever = old j timeout-field l (omega arith) n ∙ w .forever;
             }))
             (J .waits j l));
-        idle = λ j l. each (λ x. (accumulated q x ≡ 0) ⊎ (ready q x ≡ true)) j (inl (zero 4 (omega arith) (omega arith))) (λ n. rw (old j 4 l (omega arith) n, ready-old j l n) (J .idle j l));
+        idle = λ j l. each (λ x. (accumulated q x ≡ 0) ⊎ (ready q x ≡ true)) j (inl (zero accumulated-field (omega arith) (omega arith))) (λ n. rw (old j accumulated-field l (omega arith) n, ready-old j l n) (J .idle j l));
       }
     where
       new-older : (records.owner q Jobs k ≡ nobody) ⊎ (tag (records.owner q Jobs k) < tag (number q Jobs k))
@@ -165,7 +165,7 @@ module _ (p d : List ℕ) (h : sound p ≡ true) (c : Checked p d) where
   channel-mask : word q (mask-word Channels) ≡ word p (mask-word Channels)
   channel-mask = other-table-mask p q Jobs k (next-tag p Jobs) o (header-byte at) E there vacant Channels no-job
 
-  channel-field : (j f : ℕ) → j < positions Channels → f < 4 → field q Channels j f ≡ field p Channels j f
+  channel-field : (j f : ℕ) → j < positions Channels → f < width Channels → field q Channels j f ≡ field p Channels j f
   channel-field = other-table-field p q Jobs k (next-tag p Jobs) o (header-byte at) E there vacant Channels no-job
 
   channels : Channels-fine q
@@ -177,13 +177,13 @@ module _ (p d : List ℕ) (h : sound p ≡ true) (c : Checked p d) where
             (record {
               mask = channel-mask;
               last = other-table-last p q Jobs k (next-tag p Jobs) o (header-byte at) E there vacant Channels no-job;
-              numbers = λ j l. channel-field j 0 l (omega arith);
-              owners = λ j l. channel-field j 1 l (omega arith);
+              numbers = λ j l. channel-field j number-field l (omega arith);
+              owners = λ j l. channel-field j owner-field l (omega arith);
             })
             lives
             (λ j f l m v. channel-field j f l m ∙ C .entries .unused j f l m (sym (u j) ∙ v))
             (C .entries);
-        one = λ j v. channel-field j 3 (used-below q Channels j v) (omega arith) ∙ C .one j (sym (u j) ∙ v);
+        one = λ j v. channel-field j ending-field (used-below q Channels j v) (omega arith) ∙ C .one j (sym (u j) ∙ v);
       }
 
   current : Current q
@@ -217,10 +217,10 @@ module _ (p d : List ℕ) (h : sound p ≡ true) (c : Checked p d) where
       record {
         before = x;
         now-too = rw (both (leb (first Jobs) j) (used p Jobs j) x .0, still-used p q Jobs k (next-tag p Jobs) o (header-byte at) E there vacant j u);
-        base-as-was = old j 2 l (omega arith) n;
-        owner-as-was = old j 1 l (omega arith) n;
+        base-as-was = old j base-field l (omega arith) n;
+        owner-as-was = old j owner-field l (omega arith) n;
       }
-  still Channels j l x = record { before = x; now-too = claims-same p q Channels channel-mask j ∙ x; base-as-was = channel-field j 2 l (omega arith); owner-as-was = channel-field j 1 l (omega arith) }
+  still Channels j l x = record { before = x; now-too = claims-same p q Channels channel-mask j ∙ x; base-as-was = channel-field j base-field l (omega arith); owner-as-was = channel-field j owner-field l (omega arith) }
 
   entries-by : (t : Table) (j : ℕ) → j < positions t → claims q t j ≡ true → Still p q t j ⊎ ((i : ℕ) × Pair t j i)
   unfolding claims

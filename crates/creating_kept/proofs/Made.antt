@@ -9,14 +9,14 @@ use native.Mathlib.Omega.{arith}
 use borrow.Author.Tests.{ltb-true}
 use Rattle.words.specs.Words.{word}
 use Rattle.words.specs.Each.{In}
-use Rattle.picture.specs.Layout.{nobody, heap-base, heap-word, size-word, last-word, mask-word, greatest-tag, positions, from, upto}
+use Rattle.picture.specs.Layout.{nobody, heap-base, heap-word, size-word, last-word, mask-word, greatest-tag, positions, from, upto, first-job}
 use Rattle.picture.specs.Records.{used}
 use Rattle.picture.specs.Numbers.{live, free-position}
 use Rattle.picture.specs.declared.Table.{Table}
 use Rattle.picture.specs.declared.Table.the-variants.{Jobs, Channels}
 use Rattle.picture.specs.declared.Area.{Area}
 use Rattle.picture.specs.declared.Area.the-variants.{Heap, Transient}
-use Rattle.blocks.specs.Header.{kind, job-kind, free, holder, start}
+use Rattle.blocks.specs.Header.{kind-field, holder-field, start-field, kind, job-kind, free, holder, start}
 use Rattle.blocks.specs.Walk.{blocks}
 use Rattle.blocks.proofs.Starts.{starts-in}
 use Rattle.placing.specs.Place.{placed}
@@ -115,7 +115,7 @@ module _ (p d : List ℕ) (h : sound p ≡ true) (c : Checked p d) where
   unfolding created
   made-areas = entering-keeps-the-areas r Jobs place (next-tag p Jobs) owner (header-byte at) place-there whole
 
-  pub made-low : (j : ℕ) → j < 8 → (j ≡ mask-word Jobs → ⊥) → (j ≡ last-word Jobs → ⊥) → word made j ≡ word p j
+  pub made-low : (j : ℕ) → j < first-job → (j ≡ mask-word Jobs → ⊥) → (j ≡ last-word Jobs → ⊥) → word made j ≡ word p j
   made-low = low-other p made Jobs place (next-tag p Jobs) owner (header-byte at) made-entry place-there place-vacant
 
   pub made-change : Change p made Transient (Only at) None
@@ -139,10 +139,10 @@ module _ (p d : List ℕ) (h : sound p ≡ true) (c : Checked p d) where
       rw (made-change .begins Transient, made-change .ends Transient, w) (block-facts .there)
 
   pub at-kind : kind made at ≡ job-kind
-  at-kind = let l = at-behind in made-areas (at + 1) (omega arith) ∙ block-facts .its-kind
+  at-kind = let l = at-behind in made-areas (at + kind-field) (omega arith) ∙ block-facts .its-kind
 
   pub at-holder : holder made at ≡ owner
-  at-holder = let l = at-behind in made-areas (at + 2) (omega arith) ∙ block-facts .its-owner
+  at-holder = let l = at-behind in made-areas (at + holder-field) (omega arith) ∙ block-facts .its-owner
 
   pub at-start : start made at ≡ A1 d
-  at-start = let l = at-behind in made-areas (at + 3) (omega arith) ∙ block-facts .its-start
+  at-start = let l = at-behind in made-areas (at + start-field) (omega arith) ∙ block-facts .its-start

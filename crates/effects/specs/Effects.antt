@@ -4,13 +4,12 @@ use mathlib.Core.Bool.{Bool, true, false, not, _&&_, cond}
 use mathlib.Core.List.{List}
 use lib.Dec.{leb, eqb}
 use Rattle.picture.specs.Layout.{nobody}
-use Rattle.picture.specs.Records.{slot, timeout}
+use Rattle.picture.specs.Records.{slot, timeout, with-priority, with-accumulated, with-timeout, with-wait, with-key}
 use Rattle.picture.specs.declared.Table.the-variants.{Jobs}
 use Rattle.picture.specs.Layout.{greatest-priority}
 use Rattle.timeouts.specs.declared.Timeout.{Timeout}
 use Rattle.timeouts.specs.declared.Timeout.the-variants.{Zero, Frames, Endless, Bad}
 use Rattle.calls.specs.Registers.{with-D1, with-A0}
-use Rattle.calls.specs.Writes.{with-field}
 
 -- "$8 to $B also: D1 the number, A0 the record's offset"
 unfoldable pub naming : ℕ → ℕ → List ℕ → List ℕ
@@ -25,11 +24,11 @@ suspends Bad = false
 
 -- "Sets the timeout, ends any wait, clears accumulated and key."
 unfoldable pub suspended : List ℕ → ℕ → ℕ → List ℕ
-suspended p k t = with-field (with-field (with-field (with-field p Jobs k 5 t) Jobs k 6 0) Jobs k 4 0) Jobs k 7 0
+suspended p k t = with-key (with-accumulated (with-wait (with-timeout p k t) k 0) k 0) k 0
 
 -- "Suspended: timeout, wait and key become 0."
 unfoldable pub released : List ℕ → ℕ → List ℕ
-released p k = cond (eqb (timeout p k) 0) p (with-field (with-field (with-field p Jobs k 5 0) Jobs k 6 0) Jobs k 7 0)
+released p k = cond (eqb (timeout p k) 0) p (with-key (with-wait (with-timeout p k 0) k 0) k 0)
 
 -- "D2's low byte"
 abbrev pub low-byte : ℕ → ℕ
@@ -44,7 +43,7 @@ activity-good u = leb 1 u && leb u greatest-priority
 
 -- "Sets priority, clears accumulated."
 unfoldable pub prioritized : List ℕ → ℕ → ℕ → List ℕ
-prioritized p k u = with-field (with-field p Jobs k 3 u) Jobs k 4 0
+prioritized p k u = with-accumulated (with-priority p k u) k 0
 
 -- "D3's low word 0 or -1, and not -1 for job 0"
 abbrev pub may-wait : Timeout → ℕ → Bool
@@ -62,4 +61,4 @@ endless Bad = false
 
 -- "With -1 the caller has timeout -1, accumulated 0, and waits": the caller at position c, for the job with number n
 unfoldable pub waiting : List ℕ → Timeout → ℕ → ℕ → List ℕ
-waiting p t c n = cond (endless t) (with-field (with-field (with-field p Jobs c 5 nobody) Jobs c 4 0) Jobs c 6 n) p
+waiting p t c n = cond (endless t) (with-wait (with-accumulated (with-timeout p c nobody) c 0) c n) p

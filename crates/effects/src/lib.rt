@@ -3,11 +3,14 @@ use picture::Table;
 use timeouts::Timeout;
 ghost use mathlib.Core.Path.{_≡_};
 ghost use Prim.Native.Nat.{_<_};
+ghost use Rattle.picture.specs.Layout.{positions};
+ghost use Rattle.picture.specs.Numbers.{tag-weight as tagWeight};
+ghost use Rattle.picture.specs.declared.Table.the-variants.{Jobs};
 ghost use Rattle.effects.specs.Effects.{naming, suspends, suspended, released, prioritized, may-wait as mayWait, endless, waiting};
 
 // Answers the job's number and its record's offset.
 pub fn name_job(d: &mut [u32], n: u32, k: usize)
-    requires { ⌜ k < 32 ⌝ }
+    requires { ⌜ k < positions Jobs ⌝ }
     ensures { λ _. ⌜ now (d .exit) ≡ naming n k (now (d .entry)) ⌝ }
 {
     words::put(d, calls::D1, n);
@@ -28,31 +31,31 @@ pub fn is_suspension(t: Timeout) -> bool
 
 // Suspends the job at a position with a timeout: it waits for nobody, and has neither turns nor a key due.
 pub fn put_suspension(p: &mut [u32], position: usize, timeout: u32)
-    requires { ⌜ position < 32 ⌝ }
+    requires { ⌜ position < positions Jobs ⌝ }
     ensures { λ _. ⌜ now (p .exit) ≡ suspended (now (p .entry)) position timeout ⌝ }
 {
     calls::put_field(p, Table::Jobs, position, picture::TIMEOUT, timeout);
-    calls::put_field(p, Table::Jobs, position, picture::WAITED_FOR, 0);
+    calls::put_field(p, Table::Jobs, position, picture::WAIT, 0);
     calls::put_field(p, Table::Jobs, position, picture::ACCUMULATED, 0);
-    calls::put_field(p, Table::Jobs, position, picture::DELIVERED, 0);
+    calls::put_field(p, Table::Jobs, position, picture::KEY, 0);
 }
 
 // Ends the suspension of the job at position k; a job that isn't suspended stays as it is.
 pub fn put_release(p: &mut [u32], k: usize)
-    requires { ⌜ k < 32 ⌝ }
+    requires { ⌜ k < positions Jobs ⌝ }
     ensures { λ _. ⌜ now (p .exit) ≡ released (now (p .entry)) k ⌝ }
 {
     if picture::field_of(p, Table::Jobs, k, picture::TIMEOUT) == 0 {
         return;
     }
     calls::put_field(p, Table::Jobs, k, picture::TIMEOUT, 0);
-    calls::put_field(p, Table::Jobs, k, picture::WAITED_FOR, 0);
-    calls::put_field(p, Table::Jobs, k, picture::DELIVERED, 0);
+    calls::put_field(p, Table::Jobs, k, picture::WAIT, 0);
+    calls::put_field(p, Table::Jobs, k, picture::KEY, 0);
 }
 
 // Gives the job at position k a priority, and no turns due.
 pub fn put_priority(p: &mut [u32], k: usize, priority: u32)
-    requires { ⌜ k < 32 ⌝ }
+    requires { ⌜ k < positions Jobs ⌝ }
     ensures { λ _. ⌜ now (p .exit) ≡ prioritized (now (p .entry)) k priority ⌝ }
 {
     calls::put_field(p, Table::Jobs, k, picture::PRIORITY, priority);
@@ -85,7 +88,7 @@ pub fn is_endless(t: Timeout) -> bool
 
 // Where the timeout is without end, the caller at position c waits for the job with number n.
 pub fn put_wait(p: &mut [u32], t: Timeout, c: usize, n: u32)
-    requires { ⌜ c < 65536 ⌝ }
+    requires { ⌜ c < tagWeight ⌝ }
     ensures { λ _. ⌜ now (p .exit) ≡ waiting (now (p .entry)) t c n ⌝ }
 {
     if !is_endless(t) {
@@ -94,5 +97,5 @@ pub fn put_wait(p: &mut [u32], t: Timeout, c: usize, n: u32)
     let slot = picture::FIRST_JOB + picture::JOB_WIDTH * c;
     words::put(p, slot + picture::TIMEOUT, picture::NOBODY);
     words::put(p, slot + picture::ACCUMULATED, 0);
-    words::put(p, slot + picture::WAITED_FOR, n);
+    words::put(p, slot + picture::WAIT, n);
 }

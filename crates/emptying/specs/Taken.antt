@@ -7,11 +7,11 @@ use lib.Bits.{bitAnd}
 use Rattle.words.specs.Words.{word, put, clear}
 use Rattle.words.specs.Bits.{bit}
 use Rattle.picture.specs.Layout.{mask-word, positions, width}
-use Rattle.picture.specs.Records.{slot, owner, waited-for, used}
+use Rattle.picture.specs.Records.{slot, owner, waited-for, with-timeout, with-wait, with-key, used}
 use Rattle.picture.specs.declared.Table.{Table}
 use Rattle.picture.specs.declared.Table.the-variants.{Jobs, Channels}
 use Rattle.freeing.specs.Sweep.{named}
-use Rattle.calls.specs.Writes.{with-field, with-nobody}
+use Rattle.calls.specs.Writes.{with-nobody}
 use Rattle.tree.specs.Mask.{mask}
 use Rattle.emptying.specs.Each.{each}
 
@@ -21,7 +21,7 @@ waits p m k = used p Jobs k && (not (bit m k) && (not (eqb (waited-for p k) 0) &
 
 -- "has timeout and wait 0 and D3 as key to deliver"
 unfoldable pub woken : ℕ → ℕ → List ℕ → ℕ → List ℕ
-woken m key p k = cond (waits p m k) (with-field (with-field (with-field p Jobs k 5 0) Jobs k 6 0) Jobs k 7 key) p
+woken m key p k = cond (waits p m k) (with-key (with-wait (with-timeout p k 0) k 0) k key) p
 
 -- the record of position k is zero if k is in the mask
 unfoldable pub blanked : Table → ℕ → List ℕ → ℕ → List ℕ

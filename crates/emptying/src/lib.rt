@@ -20,22 +20,22 @@ ghost use Rattle.emptying.specs.Taken.{waits, woken, blanked, emptied, t
 
 // The job at position k is outside the mask and waits for one of it.
 fn is_waiting(p: &[u32], mask: u32, k: usize) -> bool
-    requires { ⌜ k < 32 ⌝ }
+    requires { ⌜ k < positions Jobs ⌝ }
     ensures { λ r. ⌜ r ≡ waits (now (p .entry)) mask k ⌝ }
 {
-    let n = field_of(p, Table::Jobs, k, picture::WAITED_FOR);
+    let n = field_of(p, Table::Jobs, k, picture::WAIT);
     is_used(p, Table::Jobs, k) & (!is_set(mask, k) & ((n != 0) & is_named(mask, n)))
 }
 
 // The job at position k is woken with the key if it waits for one of the mask.
 fn wake(p: &mut [u32], mask: u32, key: u32, k: usize)
-    requires { ⌜ k < 32 ⌝ }
+    requires { ⌜ k < positions Jobs ⌝ }
     ensures { λ _. ⌜ now (p .exit) ≡ woken mask key (now (p .entry)) k ⌝ }
 {
     if is_waiting(p, mask, k) {
         put_field(p, Table::Jobs, k, picture::TIMEOUT, 0);
-        put_field(p, Table::Jobs, k, picture::WAITED_FOR, 0);
-        put_field(p, Table::Jobs, k, picture::DELIVERED, key);
+        put_field(p, Table::Jobs, k, picture::WAIT, 0);
+        put_field(p, Table::Jobs, k, picture::KEY, key);
     }
 }
 
@@ -73,7 +73,7 @@ fn empty_table(p: &mut [u32], t: Table, mask: u32)
 
 // The channel at position k is owned by a job of the mask.
 fn is_channel_going(p: &[u32], mask: u32, k: usize) -> bool
-    requires { ⌜ k < 32 ⌝ }
+    requires { ⌜ k < positions Channels ⌝ }
     ensures { λ r. ⌜ r ≡ channelGoes (now (p .entry)) mask k ⌝ }
 {
     is_used(p, Table::Channels, k) & is_named(mask, field_of(p, Table::Channels, k, picture::OWNER))

@@ -13,7 +13,7 @@ use Rattle.words.proofs.Each.{total-same}
 use Rattle.picture.specs.Layout.{size-word, heap-word, heap-base, from, upto}
 use Rattle.picture.specs.declared.Area.{Area}
 use Rattle.picture.specs.declared.Area.the-variants.{Heap, Transient}
-use Rattle.blocks.specs.Header.{size, kind, free, holder, start}
+use Rattle.blocks.specs.Header.{header-width, kind-field, holder-field, start-field, size, kind, free, holder, start}
 use Rattle.blocks.specs.Walk.{good, next, starts}
 use Rattle.blocks.proofs.Starts.{starts-in, next-same}
 use Rattle.headers.specs.Area.{Tiled, Apart, Blank, Outside, free-size, free-bytes}
@@ -33,7 +33,7 @@ pub record Kept (p q : List ℕ) (b e m a : ℕ) : Type 0 where
   pub stays : (i : ℕ) → In i (starts p b e) → free p i ≡ false → goes p m a i ≡ false → In i (starts q b e)
   pub keeps : (i : ℕ) → In i (starts p b e) → free p i ≡ false → goes p m a i ≡ false → (k : ℕ) → i ≤ k → k < i + size p i / 4 → word q k ≡ word p k
   pub only : (i : ℕ) → In i (starts q b e) → free q i ≡ false → In i (starts p b e) × ((free p i ≡ false) × (goes p m a i ≡ false))
-  pub rooms : (i : ℕ) → In i (starts p b e) → (k : ℕ) → i + 4 ≤ k → k < i + size p i / 4 → word q k ≡ word p k
+  pub rooms : (i : ℕ) → In i (starts p b e) → (k : ℕ) → i + header-width ≤ k → k < i + size p i / 4 → word q k ≡ word p k
   pub more-free : free-bytes q b e ≡ free-bytes p b e + given-bytes p b e m a
 
 good-same : (p q : List ℕ) (i e : ℕ) → word q i ≡ word p i → good q i e ≡ good p i e
@@ -84,7 +84,7 @@ kept p x y q b e m a S T X Y = record {
     sx : (i : ℕ) → In i (starts p b e) → size x i ≡ size p i
     sx i h = let r = starts-in p b e i h in X i (r .0) (r .1)
 
-    header-of : (i f : ℕ) → f < 4 → In i (starts p b e) → word x (i + f) ≡ word p (i + f)
+    header-of : (i f : ℕ) → f < header-width → In i (starts p b e) → word x (i + f) ≡ word p (i + f)
     header-of i f l h =
         let B = block-of p b e T i h in
         let lo = B .low in
@@ -92,7 +92,7 @@ kept p x y q b e m a S T X Y = record {
         let le = B .least in
         X (i + f) (omega arith) (omega arith)
 
-    header-is : (i f : ℕ) → f < 4 → In i (starts y b e) → word q (i + f) ≡ word y (i + f)
+    header-is : (i f : ℕ) → f < header-width → In i (starts y b e) → word q (i + f) ≡ word y (i + f)
     header-is i f l h =
         let B = block-of y b e (S .tiled) i h in
         let lo = B .low in
@@ -101,13 +101,13 @@ kept p x y q b e m a S T X Y = record {
         Y (i + f) (omega arith) (omega arith)
 
     fx : (i : ℕ) → In i (starts p b e) → free x i ≡ free p i
-    fx i h = rw (header-of i 1 (omega arith) h)
+    fx i h = rw (header-of i kind-field (omega arith) h)
 
     fy : (i : ℕ) → In i (starts y b e) → free q i ≡ free y i
-    fy i h = rw (header-is i 1 (omega arith) h)
+    fy i h = rw (header-is i kind-field (omega arith) h)
 
     gx : (i : ℕ) → In i (starts p b e) → goes x m a i ≡ goes p m a i
-    gx i h = goes-same p x m a i (header-of i 1 (omega arith) h) (header-of i 2 (omega arith) h)
+    gx i h = goes-same p x m a i (header-of i kind-field (omega arith) h) (header-of i holder-field (omega arith) h)
 
     after : free-bytes q b e ≡ free-bytes y b e
     after = ap (total (free-size q)) qs ∙ total-same (free-size q) (free-size y) (starts y b e) (λ i n. let r = starts-in y b e i n in rw (fy i n, Y i (r .0) (r .1)))
@@ -121,8 +121,8 @@ kept p x y q b e m a S T X Y = record {
     plains : Blank p b e → Blank q b e
     plains t i n u =
         let v = subst (In i) qs n in
-        let o = S .blank (λ j n′ u′. let h : In j (starts p b e) = subst (In j) xs n′ in let z = t j h (sym (fx j h) ∙ u′) in (header-of j 2 (omega arith) h ∙ z .0, header-of j 3 (omega arith) h ∙ z .1)) i v (sym (fy i v) ∙ u) in
-        (header-is i 2 (omega arith) v ∙ o .0, header-is i 3 (omega arith) v ∙ o .1)
+        let o = S .blank (λ j n′ u′. let h : In j (starts p b e) = subst (In j) xs n′ in let z = t j h (sym (fx j h) ∙ u′) in (header-of j holder-field (omega arith) h ∙ z .0, header-of j start-field (omega arith) h ∙ z .1)) i v (sym (fy i v) ∙ u) in
+        (header-is i holder-field (omega arith) v ∙ o .0, header-is i start-field (omega arith) v ∙ o .1)
 
     aparts : Apart q b e
     aparts i n u l =

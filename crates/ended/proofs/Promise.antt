@@ -12,7 +12,7 @@ use Rattle.words.specs.Bits.{bit}
 use Rattle.words.specs.Each.{In}
 use Rattle.words.proofs.Tests.{both, false-true, lt-or-ge}
 use Rattle.picture.specs.Layout.{nobody, positions, width, heap-base, from, upto, size-word, heap-word}
-use Rattle.picture.specs.Records.{field, number, owner, base, timeout, waited-for, delivered, used}
+use Rattle.picture.specs.Records.{field, number, owner, base, timeout, waited-for, delivered, used, owner-field, timeout-field, wait-field, key-field}
 use Rattle.picture.specs.Numbers.{position, live}
 use Rattle.picture.specs.declared.Table.{Table}
 use Rattle.picture.specs.declared.Table.the-variants.{Jobs, Channels}
@@ -20,7 +20,7 @@ use Rattle.picture.specs.declared.Area.{Area}
 use Rattle.picture.specs.declared.Area.the-variants.{Heap, Transient}
 use Rattle.picture.proofs.Records.{used-below}
 use Rattle.picture.proofs.Numbers.{live-is, is-live}
-use Rattle.blocks.specs.Header.{size, kind, free, holder, job-kind}
+use Rattle.blocks.specs.Header.{holder-field, size, kind, free, holder, job-kind}
 use Rattle.blocks.specs.Walk.{starts, blocks}
 use Rattle.blocks.proofs.Starts.{starts-in}
 use Rattle.headers.specs.Area.{free-bytes}
@@ -136,22 +136,19 @@ module _ (p : List ℕ) (S : Sound p) (t key : ℕ) (top : used p Jobs t ≡ tru
   same-upto Transient = T .head size-word (omega arith) (λ z. omega arith) (λ z. omega arith) (λ z. omega arith)
 
   -- a field of a job outside the tree that waits for none of it
-  job-field : (k f : ℕ) → used p Jobs k ≡ true → bit (tree p t) k ≡ false → waits p (tree p t) k ≡ false → f < 8 → field (ended p t key) Jobs k f ≡ field p Jobs k f
+  job-field : (k f : ℕ) → used p Jobs k ≡ true → bit (tree p t) k ≡ false → waits p (tree p t) k ≡ false → f < width Jobs → field (ended p t key) Jobs k f ≡ field p Jobs k f
   job-field k f u b w h =
       let l = used-below p Jobs k u in
       ⊎-elim
-      (λ (d : f < 4). T .same Jobs k f l d b)
-      (λ (d : 4 ≤ f). ⊎-elim
-      (λ (e : f ≡ 4). subst (λ (g : ℕ). field (ended p t key) Jobs k g ≡ field p Jobs k g) (sym e) (T .gains k l b))
-      (λ (n₄ : f ≡ 4 → ⊥). ⊎-elim
-      (λ (e : f ≡ 5). subst (λ (g : ℕ). field (ended p t key) Jobs k g ≡ field p Jobs k g) (sym e) (T .frames k l b ∙ rw w))
-      (λ (n₅ : f ≡ 5 → ⊥). ⊎-elim
-      (λ (e : f ≡ 6). subst (λ (g : ℕ). field (ended p t key) Jobs k g ≡ field p Jobs k g) (sym e) (T .wait k l b ∙ rw w))
-      (λ (n₆ : f ≡ 6 → ⊥). let e : f ≡ 7 = omega arith in subst (λ (g : ℕ). field (ended p t key) Jobs k g ≡ field p Jobs k g) (sym e) (T .gets k l b ∙ rw w))
-      (same-or-not f 6))
-      (same-or-not f 5))
-      (same-or-not f 4))
-      (lt-or-ge f 4)
+      (λ (e : f ≡ timeout-field). subst (λ (g : ℕ). field (ended p t key) Jobs k g ≡ field p Jobs k g) (sym e) (T .frames k l b ∙ rw w))
+      (λ (n₅ : f ≡ timeout-field → ⊥). ⊎-elim
+      (λ (e : f ≡ wait-field). subst (λ (g : ℕ). field (ended p t key) Jobs k g ≡ field p Jobs k g) (sym e) (T .wait k l b ∙ rw w))
+      (λ (n₆ : f ≡ wait-field → ⊥). ⊎-elim
+      (λ (e : f ≡ key-field). subst (λ (g : ℕ). field (ended p t key) Jobs k g ≡ field p Jobs k g) (sym e) (T .gets k l b ∙ rw w))
+      (λ (n₇ : f ≡ key-field → ⊥). T .same-job k f l h n₅ n₆ n₇ b)
+      (same-or-not f key-field))
+      (same-or-not f wait-field))
+      (same-or-not f timeout-field)
 
   top-goes : (i : ℕ) → free p i ≡ false → base p Jobs t ≡ 4 * i → goes p (tree p t) (base p Jobs t / 4) i ≡ true
   unfolding goes
@@ -161,18 +158,15 @@ module _ (p : List ℕ) (S : Sound p) (t key : ℕ) (top : used p Jobs t ≡ tru
   no-entry s k u M =
       let b : bit (going (tree p t) (channels-of p (tree p t)) s) k ≡ false = otherwise _ (λ h. false-true (sym (T .dies s k h) ∙ u)) in
       let v : used p s k ≡ true = sym (T .stays s k b) ∙ u in
-      let N : Member p t (owner p s k) = subst (Member p t) (T .same s k 1 (used-below p s k v) (omega arith) b) M in
+      let N : Member p t (owner p s k) = subst (Member p t) (T .same s k owner-field (used-below p s k v) (omega arith) b) M in
       false-true (sym (owner-outside p S t s k v b (N .lives)) ∙ member-named (owner p s k) N)
 
   leaves : Leaves p (ended p t key) t key
   leaves = record {
     jobs-stay = λ k u n. T .stays Jobs k (outside k u n) ∙ u;
     channels-stay = λ k u n. T .stays Channels k (channel-outside k u n) ∙ u;
-    jobs = λ k f u n l. ⊎-elim
-        (λ (d : f < 4). T .same Jobs k f (used-below p Jobs k u) d (outside k u n))
-        (λ (d : 4 ≤ f). let e : f ≡ 4 = omega arith in subst (λ (g : ℕ). field (ended p t key) Jobs k g ≡ field p Jobs k g) (sym e) (T .gains k (used-below p Jobs k u) (outside k u n)))
-        (lt-or-ge f 4);
-    channels = λ k f u n l. T .same Channels k f (used-below p Channels k u) l (channel-outside k u n);
+    jobs = λ k f u n l n₅ n₆ n₇. T .same-job k f (used-below p Jobs k u) l n₅ n₆ n₇ (outside k u n);
+    channels = λ k f u n l. T .same-channel k f (used-below p Channels k u) l (channel-outside k u n);
     waiters = λ k u n M.
         let b = outside k u n in
         let w = waits-is k u b M in
@@ -205,7 +199,7 @@ module _ (p : List ℕ) (S : Sound p) (t key : ℕ) (top : used p Jobs t ≡ tru
           let o = old r i m u in
           let B = block-of p (from p r) (upto p r) (S .tiled r .whole) i (o .0) in
           let l = B .least in
-          K r .keeps i (o .0) (o .1 .0) (o .1 .1) (i + 2) (omega arith) (omega arith)
+          K r .keeps i (o .0) (o .1 .0) (o .1 .1) (i + holder-field) (omega arith) (omega arith)
 
 -- every entry and block whose owner is outside the tree is, longword for longword, what it was
 pub ending-leaves-others : (p : List ℕ) (t key : ℕ) → sound p ≡ true → used p Jobs t ≡ true → (t ≡ 0 → ⊥) → Leaves p (ended p t key) t key

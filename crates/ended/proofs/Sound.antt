@@ -13,7 +13,7 @@ use Rattle.words.specs.Bits.{bit}
 use Rattle.words.specs.Each.{In}
 use Rattle.words.proofs.Tests.{both, false-true, lt-or-ge}
 use Rattle.picture.specs.Layout.{nobody, size-word, current-word, last-word, heap-word, zero-word, heap-base, mask-word, positions, width, first-record, from, upto}
-use Rattle.picture.specs.Records.{field, number, owner, base, priority, accumulated, timeout, waited-for, ending, used, ready}
+use Rattle.picture.specs.Records.{field, number-field, owner-field, base-field, priority-field, accumulated-field, timeout-field, wait-field, key-field, ending-field, number, owner, base, priority, accumulated, timeout, waited-for, ending, used, ready}
 use Rattle.picture.specs.Numbers.{tag, position, live}
 use Rattle.picture.specs.declared.Table.{Table}
 use Rattle.picture.specs.declared.Table.the-variants.{Jobs, Channels}
@@ -21,7 +21,7 @@ use Rattle.picture.specs.declared.Area.{Area}
 use Rattle.picture.specs.declared.Area.the-variants.{Heap, Transient}
 use Rattle.picture.proofs.Records.{used-below}
 use Rattle.picture.proofs.Numbers.{Live, live-is, is-live}
-use Rattle.blocks.specs.Header.{size, kind, kind-of, queue-kind, job-kind, free, holder, start, queue-length, queue-oldest, queue-count, queue-zero, rounded}
+use Rattle.blocks.specs.Header.{kind-field, holder-field, start-field, queue-length-field, queue-oldest-field, queue-count-field, queue-zero-field, size, kind, kind-of, queue-kind, job-kind, free, holder, start, queue-length, queue-oldest, queue-count, queue-zero, rounded}
 use Rattle.blocks.specs.Walk.{good, next, starts, blocks}
 use Rattle.headers.proofs.Header.{same-or-not}
 use Rattle.headers.proofs.Row.{block-of}
@@ -39,7 +39,7 @@ use Rattle.owners.proofs.Owners.{owners-of}
 use Rattle.tree.proofs.Members.{tree-unowned}
 use Rattle.emptying.specs.Taken.{waits, channels-of}
 use Rattle.ending.specs.Ended.{returned, ended}
-use Rattle.ended.proofs.Taken.{going, Taken, taken-tables, taken-above, taken-from}
+use Rattle.ended.proofs.Taken.{going, Taken, taken-tables, taken-above, taken-from, taken-gains, taken-priority}
 use Rattle.ended.proofs.Areas.{Kept, extra, returned-long, returned-low, area-kept}
 use Rattle.ended.proofs.Owned.{tree-fits, channels-fit, named-is, is-named, not-named, otherwise, owner-outside, block-goes}
 
@@ -101,7 +101,7 @@ module _ (p : List ℕ) (S : Sound p) (t key : ℕ) (top : used p Jobs t ≡ tru
       let v = live-is p Jobs n l in
       let w = used-below p Jobs (position n) (v .used) in
       let b = not-named m n w h in
-      is-live q Jobs n (record { used = T .stays Jobs (position n) b ∙ v .used; names = T .same Jobs (position n) 0 w (omega arith) b ∙ v .names })
+      is-live q Jobs n (record { used = T .stays Jobs (position n) b ∙ v .used; names = T .same Jobs (position n) number-field w (omega arith) b ∙ v .names })
 
   -- the areas stand where they did
   same-from : (r : Area) → from q r ≡ from p r
@@ -149,11 +149,11 @@ module _ (p : List ℕ) (S : Sound p) (t key : ℕ) (top : used p Jobs t ≡ tru
   entries-kept : (t′ : Table) → ((k f : ℕ) → k < positions t′ → f < width t′ → used p t′ k ≡ false → bit (going m c t′) k ≡ false → field q t′ k f ≡ 0) → word q (last-word t′) ≡ word p (last-word t′) → Entries p t′ → Entries q t′
   entries-kept t′ z l E = record {
     unused = λ k f h w u. unused-by k f h w u (bit (going m c t′) k) refl;
-    place = λ k u. let v = was t′ k u in rw (T .same t′ k 0 (used-below q t′ k u) (omega arith) (v .1)) (E .place k (v .0));
-    tagged = λ k h. let u = claims-used q t′ k h in let v = was t′ k u in rw (T .same t′ k 0 (used-below q t′ k u) (omega arith) (v .1)) (E .tagged k (claims-was t′ k h));
-    once = λ i k g h e. let v = was t′ i g in let w = was t′ k h in E .once i k (v .0) (w .0) (rw (T .same t′ i 0 (used-below q t′ i g) (omega arith) (v .1), T .same t′ k 0 (used-below q t′ k h) (omega arith) (w .1)) at e);
-    owned = λ k u. let v = was t′ k u in rw (T .same t′ k 1 (used-below q t′ k u) (omega arith) (v .1)) (owned-stays t′ k (v .0) (v .1) (E .owned k (v .0)));
-    given = λ k u. let v = was t′ k u in rw (T .same t′ k 0 (used-below q t′ k u) (omega arith) (v .1), l) (E .given k (v .0));
+    place = λ k u. let v = was t′ k u in rw (T .same t′ k number-field (used-below q t′ k u) (omega arith) (v .1)) (E .place k (v .0));
+    tagged = λ k h. let u = claims-used q t′ k h in let v = was t′ k u in rw (T .same t′ k number-field (used-below q t′ k u) (omega arith) (v .1)) (E .tagged k (claims-was t′ k h));
+    once = λ i k g h e. let v = was t′ i g in let w = was t′ k h in E .once i k (v .0) (w .0) (rw (T .same t′ i number-field (used-below q t′ i g) (omega arith) (v .1), T .same t′ k number-field (used-below q t′ k h) (omega arith) (w .1)) at e);
+    owned = λ k u. let v = was t′ k u in rw (T .same t′ k owner-field (used-below q t′ k u) (omega arith) (v .1)) (owned-stays t′ k (v .0) (v .1) (E .owned k (v .0)));
+    given = λ k u. let v = was t′ k u in rw (T .same t′ k number-field (used-below q t′ k u) (omega arith) (v .1), l) (E .given k (v .0));
   }
     where
       unused-by : (k f : ℕ) → k < positions t′ → f < width t′ → used q t′ k ≡ false → (b : Bool) → bit (going m c t′) k ≡ b → field q t′ k f ≡ 0
@@ -169,23 +169,20 @@ module _ (p : List ℕ) (S : Sound p) (t key : ℕ) (top : used p Jobs t ≡ tru
   unfolding waits
   not-waiting k u b n h = rw (u, b, ne-eqb (waited-for p k) 0 n) at h
 
-  job-unused : (k f : ℕ) → k < positions Jobs → f < 8 → used p Jobs k ≡ false → bit m k ≡ false → field q Jobs k f ≡ 0
+  job-unused : (k f : ℕ) → k < positions Jobs → f < width Jobs → used p Jobs k ≡ false → bit m k ≡ false → field q Jobs k f ≡ 0
   job-unused k f l h u b =
       let E = S .jobs .entries .unused k in
       let w = waits-used k u in
       ⊎-elim
-      (λ (d : f < 4). T .same Jobs k f l d b ∙ E f l h u)
-      (λ (d : 4 ≤ f). ⊎-elim
-      (λ (e : f ≡ 4). subst (λ (g : ℕ). field q Jobs k g ≡ 0) (sym e) (T .gains k l b ∙ E 4 l (omega arith) u))
-      (λ (n₄ : f ≡ 4 → ⊥). ⊎-elim
-      (λ (e : f ≡ 5). subst (λ (g : ℕ). field q Jobs k g ≡ 0) (sym e) (T .frames k l b ∙ rw w (E 5 l (omega arith) u)))
-      (λ (n₅ : f ≡ 5 → ⊥). ⊎-elim
-      (λ (e : f ≡ 6). subst (λ (g : ℕ). field q Jobs k g ≡ 0) (sym e) (T .wait k l b ∙ rw w (E 6 l (omega arith) u)))
-      (λ (n₆ : f ≡ 6 → ⊥). let e : f ≡ 7 = omega arith in subst (λ (g : ℕ). field q Jobs k g ≡ 0) (sym e) (T .gets k l b ∙ rw w (E 7 l (omega arith) u)))
-      (same-or-not f 6))
-      (same-or-not f 5))
-      (same-or-not f 4))
-      (lt-or-ge f 4)
+      (λ (e : f ≡ timeout-field). subst (λ (g : ℕ). field q Jobs k g ≡ 0) (sym e) (T .frames k l b ∙ rw w (E timeout-field l (omega arith) u)))
+      (λ (n₅ : f ≡ timeout-field → ⊥). ⊎-elim
+      (λ (e : f ≡ wait-field). subst (λ (g : ℕ). field q Jobs k g ≡ 0) (sym e) (T .wait k l b ∙ rw w (E wait-field l (omega arith) u)))
+      (λ (n₆ : f ≡ wait-field → ⊥). ⊎-elim
+      (λ (e : f ≡ key-field). subst (λ (g : ℕ). field q Jobs k g ≡ 0) (sym e) (T .gets k l b ∙ rw w (E key-field l (omega arith) u)))
+      (λ (n₇ : f ≡ key-field → ⊥). T .same-job k f l h n₅ n₆ n₇ b ∙ E f l h u)
+      (same-or-not f key-field))
+      (same-or-not f wait-field))
+      (same-or-not f timeout-field)
 
   zero-stays : bit m 0 ≡ false
   unfolding m
@@ -200,7 +197,7 @@ module _ (p : List ℕ) (S : Sound p) (t key : ℕ) (top : used p Jobs t ≡ tru
       by false e = inr e
 
       go : (b : Bool) → bit m k ≡ b → (timeout q k ≡ 0) ⊎ (timeout q k ≡ timeout p k)
-      go true b = inl (T .blank Jobs k 5 l (omega arith) b)
+      go true b = inl (T .blank Jobs k timeout-field l (omega arith) b)
       go false b = by (waits p m k) (T .frames k l b)
 
   waits-kept : (k : ℕ) → k < positions Jobs → (waited-for q k ≡ 0) ⊎ Waits q k
@@ -211,20 +208,20 @@ module _ (p : List ℕ) (S : Sound p) (t key : ℕ) (top : used p Jobs t ≡ tru
           let e : waited-for q k ≡ waited-for p k = T .wait k l b ∙ rw w in
           record {
             alive = rw e (live-stays (waited-for p k) (W .alive) (not-waiting k u b n w));
-            other = λ z. W .other (sym e ∙ z ∙ T .same Jobs k 0 l (omega arith) b);
+            other = λ z. W .other (sym e ∙ z ∙ T .same Jobs k number-field l (omega arith) b);
             forever = T .frames k l b ∙ rw w (W .forever);
           }
 
       by : bit m k ≡ false → (w : Bool) → waits p m k ≡ w → (u : Bool) → used p Jobs k ≡ u → (waited-for q k ≡ 0) ⊎ Waits q k
       by b true w u v = inl (T .wait k l b ∙ rw w)
-      by b false w false v = inl (T .wait k l b ∙ rw w (S .jobs .entries .unused k 6 l (omega arith) v))
+      by b false w false v = inl (T .wait k l b ∙ rw w (S .jobs .entries .unused k wait-field l (omega arith) v))
       by b false w true v = ⊎-elim
           (λ e. inl (T .wait k l b ∙ rw w e))
           (λ W. ⊎-elim (λ (e : waited-for p k ≡ 0). inl (T .wait k l b ∙ rw w e)) (λ n. inr (still b w v n W)) (same-or-not (waited-for p k) 0))
           (S .jobs .waits k l)
 
       go : (b : Bool) → bit m k ≡ b → (waited-for q k ≡ 0) ⊎ Waits q k
-      go true b = inl (T .blank Jobs k 6 l (omega arith) b)
+      go true b = inl (T .blank Jobs k wait-field l (omega arith) b)
       go false b = by b (waits p m k) refl (used p Jobs k) refl
 
   ready-kept : (k : ℕ) → k < positions Jobs → bit m k ≡ false → ready p k ≡ true → ready q k ≡ true
@@ -232,42 +229,42 @@ module _ (p : List ℕ) (S : Sound p) (t key : ℕ) (top : used p Jobs t ≡ tru
   ready-kept k l b r =
       let d = both (leb 1 (priority p k)) (eqb (timeout p k) 0) r in
       let z = eqb-true (timeout p k) 0 (d .1) in
-      rw (T .same Jobs k 3 l (omega arith) b, d .0) (eq-eqb (timeout q k) 0 (⊎-elim (λ e. e) (λ e. e ∙ z) (timeout-is k l)))
+      rw (taken-priority p q m c key T k l b, d .0) (eq-eqb (timeout q k) 0 (⊎-elim (λ e. e) (λ e. e ∙ z) (timeout-is k l)))
 
   jobs-kept : Jobs-fine q
   jobs-kept =
       let J = S .jobs in
-      let first-of : (f : ℕ) → f < 4 → field q Jobs 0 f ≡ field p Jobs 0 f = λ f h. T .same Jobs 0 f (omega arith) h zero-stays in
+      let first-of : (f : ℕ) → f ≤ base-field → field q Jobs 0 f ≡ field p Jobs 0 f = λ f h. T .same Jobs 0 f (omega arith) h zero-stays in
       record {
         entries = entries-kept Jobs job-unused (same-last Jobs) (J .entries);
         zero-lives = T .stays Jobs 0 zero-stays ∙ J .zero-lives;
-        zero-number = first-of 0 (omega arith) ∙ J .zero-number;
-        zero-base = first-of 2 (omega arith) ∙ J .zero-base;
-        zero-unowned = first-of 1 (omega arith) ∙ J .zero-unowned;
+        zero-number = first-of number-field (omega arith) ∙ J .zero-number;
+        zero-base = first-of base-field (omega arith) ∙ J .zero-base;
+        zero-unowned = first-of owner-field (omega arith) ∙ J .zero-unowned;
         urgent = λ k l. urgent-by k l (bit m k) refl;
         gained = λ k l. gained-by k l (bit m k) refl;
         frames = λ k l. ⊎-elim (λ (e : timeout q k ≡ 0). inl (rw e (omega arith))) (λ (e : timeout q k ≡ timeout p k). rw e (J .frames k l)) (timeout-is k l);
-        older = λ k u. let v = was Jobs k u in rw (T .same Jobs k 1 (used-below q Jobs k u) (omega arith) (v .1), T .same Jobs k 0 (used-below q Jobs k u) (omega arith) (v .1)) (J .older k (v .0));
+        older = λ k u. let v = was Jobs k u in rw (T .same Jobs k owner-field (used-below q Jobs k u) (omega arith) (v .1), T .same Jobs k number-field (used-below q Jobs k u) (omega arith) (v .1)) (J .older k (v .0));
         waits = waits-kept;
         idle = λ k l. idle-by k l (bit m k) refl;
       }
     where
       urgent-by : (k : ℕ) → k < positions Jobs → (b : Bool) → bit m k ≡ b → priority q k ≤ greatest-priority
-      urgent-by k l true b = rw (T .blank Jobs k 3 l (omega arith) b) (omega arith)
-      urgent-by k l false b = rw (T .same Jobs k 3 l (omega arith) b) (S .jobs .urgent k l)
+      urgent-by k l true b = rw (T .blank Jobs k priority-field l (omega arith) b) (omega arith)
+      urgent-by k l false b = rw (taken-priority p q m c key T k l b) (S .jobs .urgent k l)
 
       gained-by : (k : ℕ) → k < positions Jobs → (b : Bool) → bit m k ≡ b → accumulated q k ≤ hold
-      gained-by k l true b = rw (T .blank Jobs k 4 l (omega arith) b) (omega arith)
-      gained-by k l false b = rw (T .gains k l b) (S .jobs .gained k l)
+      gained-by k l true b = rw (T .blank Jobs k accumulated-field l (omega arith) b) (omega arith)
+      gained-by k l false b = rw (taken-gains p q m c key T k l b) (S .jobs .gained k l)
 
       idle-by : (k : ℕ) → k < positions Jobs → (b : Bool) → bit m k ≡ b → (accumulated q k ≡ 0) ⊎ (ready q k ≡ true)
-      idle-by k l true b = inl (T .blank Jobs k 4 l (omega arith) b)
-      idle-by k l false b = ⊎-elim (λ e. inl (T .gains k l b ∙ e)) (λ r. inr (ready-kept k l b r)) (S .jobs .idle k l)
+      idle-by k l true b = inl (T .blank Jobs k accumulated-field l (omega arith) b)
+      idle-by k l false b = ⊎-elim (λ e. inl (taken-gains p q m c key T k l b ∙ e)) (λ r. inr (ready-kept k l b r)) (S .jobs .idle k l)
 
   channels-kept : Channels-fine q
   channels-kept = record {
-    entries = entries-kept Channels (λ k f l h u b. T .same Channels k f l h b ∙ S .channels .entries .unused k f l h u) (same-last Channels) (S .channels .entries);
-    one = λ k u. let v = was Channels k u in T .same Channels k 3 (used-below q Channels k u) (omega arith) (v .1) ∙ S .channels .one k (v .0);
+    entries = entries-kept Channels (λ k f l h u b. T .same-channel k f l h b ∙ S .channels .entries .unused k f l h u) (same-last Channels) (S .channels .entries);
+    one = λ k u. let v = was Channels k u in T .same-channel k ending-field (used-below q Channels k u) (omega arith) (v .1) ∙ S .channels .one k (v .0);
   }
 
   -- a block in use of q was one of p, with every longword
@@ -297,14 +294,14 @@ module _ (p : List ℕ) (S : Sound p) (t key : ℕ) (top : used p Jobs t ≡ tru
   queue-kept : (i : ℕ) → Queue p i → ((f : ℕ) → f < size p i / 4 → word q (i + f) ≡ word p (i + f)) → size q i ≡ size p i → Queue q i
   queue-kept i u same e =
       let l : 8 ≤ size p i / 4 = let z = u .long in let o = u .least in rw z (omega arith) in
-      let n = same 4 (omega arith) in
+      let n = same queue-length-field (omega arith) in
       record {
         least = rw n (u .least);
         most = rw n (u .most);
         long = rw (e, n) (u .long);
-        oldest = rw (same 5 (omega arith), n) (u .oldest);
-        held = rw (same 6 (omega arith), n) (u .held);
-        nought = rw (same 7 (omega arith)) (u .nought);
+        oldest = rw (same queue-oldest-field (omega arith), n) (u .oldest);
+        held = rw (same queue-count-field (omega arith), n) (u .held);
+        nought = rw (same queue-zero-field (omega arith)) (u .nought);
       }
 
   fits-free : (r : Area) → Fits r 0
@@ -321,18 +318,18 @@ module _ (p : List ℕ) (S : Sound p) (t key : ℕ) (top : used p Jobs t ≡ tru
         whole = λ i n. rw (same-upto r) (K r .tiled i (block-in r i n));
         fits = λ i n. ⊎-elim
             (λ (e : kind q i ≡ 0). subst (Fits r) (sym e) (fits-free r))
-            (λ u. let w = as-was r i n u in let f = w .four in subst (Fits r) (sym (w .same 1 (omega arith))) (S .tiled r .fits i (w .there)))
+            (λ u. let w = as-was r i n u in let f = w .four in subst (Fits r) (sym (w .same kind-field (omega arith))) (S .tiled r .fits i (w .there)))
             (same-or-not (kind q i) 0);
         starts-zero = λ i n. ⊎-elim
             (λ (e : kind q i ≡ 0). inr (P i (block-in r i n) (eq-eqb (kind q i) 0 e) .1))
-            (λ u. let w = as-was r i n u in let f = w .four in rw (w .same 1 (omega arith), w .same 3 (omega arith)) (S .tiled r .starts-zero i (w .there)))
+            (λ u. let w = as-was r i n u in let f = w .four in rw (w .same kind-field (omega arith), w .same start-field (omega arith)) (S .tiled r .starts-zero i (w .there)))
             (same-or-not (kind q i) 0);
         free-zero = λ i n e. P i (block-in r i n) (eq-eqb (kind q i) 0 e);
-        queue = λ i n e. let w = as-was r i n (λ z. queued i e z) in let f = w .four in queue-kept i (S .tiled r .queue i (w .there) (sym (w .same 1 (omega arith)) ∙ e)) (w .same) (same-size r i w);
+        queue = λ i n e. let w = as-was r i n (λ z. queued i e z) in let f = w .four in queue-kept i (S .tiled r .queue i (w .there) (sym (w .same kind-field (omega arith)) ∙ e)) (w .same) (same-size r i w);
         lone = λ i n e l z. lone-by i n e (rw (same-upto r) at l) (rw (same-upto r) at z);
         held = λ i n. ⊎-elim
             inl
-            (λ u. let w = as-was r i n u in let f = w .four in rw (w .same 1 (omega arith), w .same 2 (omega arith)) (held-by i w (S .tiled r .held i (w .there))))
+            (λ u. let w = as-was r i n u in let f = w .four in rw (w .same kind-field (omega arith), w .same holder-field (omega arith)) (held-by i w (S .tiled r .held i (w .there))))
             (same-or-not (kind q i) 0);
       }
     where
@@ -365,7 +362,7 @@ module _ (p : List ℕ) (S : Sound p) (t key : ℕ) (top : used p Jobs t ≡ tru
     heir = λ i n e.
         let w = as-was (area-of t′) i n (kind-in-use t′ (kind q i) e) in
         let f = w .four in
-        let o = S .matched t′ .heir i (w .there) (sym (w .same 1 (omega arith)) ∙ e) in
+        let o = S .matched t′ .heir i (w .there) (sym (w .same kind-field (omega arith)) ∙ e) in
         (o .0, (o .1 .0, onto (o .0) i (o .1 .0) (sym (own-goes t′ (o .0) i (w .there) (o .1 .1)) ∙ w .left) (w .there) (w .busy) (w .left) (o .1 .1)));
     apart = λ j k i x y n v w. S .matched t′ .apart j k i x y (as-was (area-of t′) i n (kind-in-use t′ (kind q i) (v .sorts)) .there) (down j i n v) (down k i n w);
   }
@@ -380,9 +377,9 @@ module _ (p : List ℕ) (S : Sound p) (t key : ℕ) (top : used p Jobs t ≡ tru
           let keep = K (area-of t′) .keeps i n u g in
           record {
             claim = claims-stays t′ k b (o .claim);
-            sorts = keep (i + 1) (omega arith) (omega arith) ∙ o .sorts;
-            place = T .same t′ k 2 l (omega arith) b ∙ o .place;
-            held = T .same t′ k 1 l (omega arith) b ∙ o .held ∙ sym (keep (i + 2) (omega arith) (omega arith));
+            sorts = keep (i + kind-field) (omega arith) (omega arith) ∙ o .sorts;
+            place = T .same t′ k base-field l (omega arith) b ∙ o .place;
+            held = T .same t′ k owner-field l (omega arith) b ∙ o .held ∙ sym (keep (i + holder-field) (omega arith) (omega arith));
           }
 
       down : (k i : ℕ) → In i (blocks q (area-of t′)) → Own q t′ k i → Own p t′ k i
@@ -394,9 +391,9 @@ module _ (p : List ℕ) (S : Sound p) (t key : ℕ) (top : used p Jobs t ≡ tru
           let l = used-below q t′ k u in
           record {
             claim = claims-was t′ k (o .claim);
-            sorts = sym (w .same 1 (omega arith)) ∙ o .sorts;
-            place = sym (T .same t′ k 2 l (omega arith) (x .1)) ∙ o .place;
-            held = sym (T .same t′ k 1 l (omega arith) (x .1)) ∙ o .held ∙ w .same 2 (omega arith);
+            sorts = sym (w .same kind-field (omega arith)) ∙ o .sorts;
+            place = sym (T .same t′ k base-field l (omega arith) (x .1)) ∙ o .place;
+            held = sym (T .same t′ k owner-field l (omega arith) (x .1)) ∙ o .held ∙ w .same holder-field (omega arith);
           }
 
   pub ended-facts : Sound (ended p t key)
@@ -409,7 +406,7 @@ module _ (p : List ℕ) (S : Sound p) (t key : ℕ) (top : used p Jobs t ≡ tru
   ended-is-no-newer t′ n l =
       let v = live-is q t′ n l in
       let w = was t′ (position n) (v .used) in
-      is-live p t′ n (record { used = w .0; names = sym (T .same t′ (position n) 0 (used-below q t′ (position n) (v .used)) (omega arith) (w .1)) ∙ v .names })
+      is-live p t′ n (record { used = w .0; names = sym (T .same t′ (position n) number-field (used-below q t′ (position n) (v .used)) (omega arith) (w .1)) ∙ v .names })
 
 -- ending the tree of a live job other than 0 keeps a sound picture sound
 pub ending-keeps-sound : (p : List ℕ) (t key : ℕ) → sound p ≡ true → used p Jobs t ≡ true → (t ≡ 0 → ⊥) → sound (ended p t key) ≡ true

@@ -13,14 +13,13 @@ use Rattle.words.specs.Words.{word, put, clear}
 use Rattle.words.specs.Bits.{bit}
 use Rattle.words.proofs.Tests.{lt-or-ge}
 use Rattle.picture.specs.Layout.{mask-word, positions, width, first-record, heap-base}
-use Rattle.picture.specs.Records.{slot, timeout, waited-for, delivered, used}
+use Rattle.picture.specs.Records.{slot, timeout, waited-for, delivered, used, key-field, timeout-field, wait-field, with-key, with-timeout, with-wait}
 use Rattle.picture.specs.declared.Table.{Table}
 use Rattle.picture.specs.declared.Table.the-variants.{Jobs, Channels}
 use Rattle.picture.proofs.Records.{slot-within, used-is, used-past, positions-same}
 use Rattle.headers.specs.Area.{Outside}
 use Rattle.headers.proofs.Clear.{clear-other, clear-zeros}
 use Rattle.freeing.specs.Sweep.{named}
-use Rattle.calls.specs.Writes.{with-field}
 use Rattle.emptying.specs.Each.{each}
 use Rattle.emptying.specs.Taken.{waits, woken, blanked, without, emptied}
 use Rattle.emptying.proofs.Steps.{length-each, length-woken, length-blanked, length-emptied}
@@ -122,17 +121,17 @@ module _ (p q : List ℕ) (t : Table) (m : ℕ) (fits : m < 4294967296) (h : wor
 
 -- waking writes timeout, wait and key of a job that waits
 abbrev Spared : ℕ → ℕ → Type 0
-Spared k x = (f : ℕ) → 5 ≤ f → f < 8 → x ≡ slot Jobs k + f → ⊥
+Spared k x = (f : ℕ) → timeout-field ≤ f → f ≤ key-field → x ≡ slot Jobs k + f → ⊥
 
 woken-other : (m key : ℕ) (p : List ℕ) (k x : ℕ) → Spared k x → word (woken m key p k) x ≡ word p x
 unfolding woken
 woken-other m key p k x s = go (waits p m k)
   where
-    go : (b : Bool) → word (cond b (with-field (with-field (with-field p Jobs k 5 0) Jobs k 6 0) Jobs k 7 key) p) x ≡ word p x
+    go : (b : Bool) → word (cond b (with-key (with-wait (with-timeout p k 0) k 0) k key) p) x ≡ word p x
     go true =
-        getD-set-other (with-field (with-field p Jobs k 5 0) Jobs k 6 0) (slot Jobs k + 7) x key 0 (s 7 (omega arith) (omega arith))
-        ∙ getD-set-other (with-field p Jobs k 5 0) (slot Jobs k + 6) x 0 0 (s 6 (omega arith) (omega arith))
-        ∙ getD-set-other p (slot Jobs k + 5) x 0 0 (s 5 (omega arith) (omega arith))
+        getD-set-other (with-wait (with-timeout p k 0) k 0) (slot Jobs k + key-field) x key 0 (s key-field (omega arith) (omega arith))
+        ∙ getD-set-other (with-timeout p k 0) (slot Jobs k + wait-field) x 0 0 (s wait-field (omega arith) (omega arith))
+        ∙ getD-set-other p (slot Jobs k + timeout-field) x 0 0 (s timeout-field (omega arith) (omega arith))
     go false = refl
 
 module _ (m key : ℕ) (p : List ℕ) (k : ℕ) (l : k < positions Jobs) (long : heap-base ≤ length p) where
@@ -140,29 +139,29 @@ module _ (m key : ℕ) (p : List ℕ) (k : ℕ) (l : k < positions Jobs) (long :
   unfolding woken
   woken-timeout = go (waits p m k)
     where
-      go : (b : Bool) → word (cond b (with-field (with-field (with-field p Jobs k 5 0) Jobs k 6 0) Jobs k 7 key) p) (slot Jobs k + 5) ≡ cond b 0 (timeout p k)
+      go : (b : Bool) → word (cond b (with-key (with-wait (with-timeout p k 0) k 0) k key) p) (slot Jobs k + timeout-field) ≡ cond b 0 (timeout p k)
       go true =
-          getD-set-other (with-field (with-field p Jobs k 5 0) Jobs k 6 0) (slot Jobs k + 7) (slot Jobs k + 5) key 0 (λ z. omega arith)
-          ∙ getD-set-other (with-field p Jobs k 5 0) (slot Jobs k + 6) (slot Jobs k + 5) 0 0 (λ z. omega arith)
-          ∙ getD-set-same p (slot Jobs k + 5) 0 0 (omega arith)
+          getD-set-other (with-wait (with-timeout p k 0) k 0) (slot Jobs k + key-field) (slot Jobs k + timeout-field) key 0 (λ z. omega arith)
+          ∙ getD-set-other (with-timeout p k 0) (slot Jobs k + wait-field) (slot Jobs k + timeout-field) 0 0 (λ z. omega arith)
+          ∙ getD-set-same p (slot Jobs k + timeout-field) 0 0 (omega arith)
       go false = refl
 
   woken-wait : waited-for (woken m key p k) k ≡ cond (waits p m k) 0 (waited-for p k)
   unfolding woken
   woken-wait = go (waits p m k)
     where
-      go : (b : Bool) → word (cond b (with-field (with-field (with-field p Jobs k 5 0) Jobs k 6 0) Jobs k 7 key) p) (slot Jobs k + 6) ≡ cond b 0 (waited-for p k)
+      go : (b : Bool) → word (cond b (with-key (with-wait (with-timeout p k 0) k 0) k key) p) (slot Jobs k + wait-field) ≡ cond b 0 (waited-for p k)
       go true =
-          getD-set-other (with-field (with-field p Jobs k 5 0) Jobs k 6 0) (slot Jobs k + 7) (slot Jobs k + 6) key 0 (λ z. omega arith)
-          ∙ getD-set-same (with-field p Jobs k 5 0) (slot Jobs k + 6) 0 0 (simp length-set (omega arith))
+          getD-set-other (with-wait (with-timeout p k 0) k 0) (slot Jobs k + key-field) (slot Jobs k + wait-field) key 0 (λ z. omega arith)
+          ∙ getD-set-same (with-timeout p k 0) (slot Jobs k + wait-field) 0 0 (simp length-set (omega arith))
       go false = refl
 
   woken-key : delivered (woken m key p k) k ≡ cond (waits p m k) key (delivered p k)
   unfolding woken
   woken-key = go (waits p m k)
     where
-      go : (b : Bool) → word (cond b (with-field (with-field (with-field p Jobs k 5 0) Jobs k 6 0) Jobs k 7 key) p) (slot Jobs k + 7) ≡ cond b key (delivered p k)
-      go true = getD-set-same (with-field (with-field p Jobs k 5 0) Jobs k 6 0) (slot Jobs k + 7) key 0 (simp length-set (omega arith))
+      go : (b : Bool) → word (cond b (with-key (with-wait (with-timeout p k 0) k 0) k key) p) (slot Jobs k + key-field) ≡ cond b key (delivered p k)
+      go true = getD-set-same (with-wait (with-timeout p k 0) k 0) (slot Jobs k + key-field) key 0 (simp length-set (omega arith))
       go false = refl
 
 -- who waits depends on the mask of jobs and the job's wait
@@ -188,7 +187,7 @@ module _ (m key : ℕ) (p : List ℕ) where
     so-long = rw (length-each (woken m key) (length-woken m key) k p) long
 
     -- the record of k is not touched before k's turn
-    before : (f : ℕ) → f < 8 → word so-far (slot Jobs k + f) ≡ word p (slot Jobs k + f)
+    before : (f : ℕ) → f < width Jobs → word so-far (slot Jobs k + f) ≡ word p (slot Jobs k + f)
     unfolding so-far
     before f h = each-other (woken m key) k p (slot Jobs k + f) (λ q j i. woken-other m key q j (slot Jobs k + f) (λ g a b z. omega arith))
 
@@ -196,17 +195,17 @@ module _ (m key : ℕ) (p : List ℕ) where
     unfolding so-far
     waited = waits-same p so-far m k
         (used-with p so-far k (each-other (woken m key) k p (mask-word Jobs) (λ q j i. woken-other m key q j (mask-word Jobs) (λ g a b z. omega arith))))
-        (before 6 (omega arith))
+        (before wait-field (omega arith))
 
-    turn : (f : ℕ) → f < 8 → word (each (woken m key) (positions Jobs) p) (slot Jobs k + f) ≡ word (woken m key so-far k) (slot Jobs k + f)
+    turn : (f : ℕ) → f < width Jobs → word (each (woken m key) (positions Jobs) p) (slot Jobs k + f) ≡ word (woken m key so-far k) (slot Jobs k + f)
     unfolding so-far
     turn f h = each-at (woken m key) (positions Jobs) k p (slot Jobs k + f) l (λ q j i n. woken-other m key q j (slot Jobs k + f) (λ g a b z. n (omega arith)))
 
     pub wakes-timeout : timeout (each (woken m key) (positions Jobs) p) k ≡ cond (waits p m k) 0 (timeout p k)
-    wakes-timeout = turn 5 (omega arith) ∙ woken-timeout m key so-far k l so-long ∙ rw (waited, before 5 (omega arith))
+    wakes-timeout = turn timeout-field (omega arith) ∙ woken-timeout m key so-far k l so-long ∙ rw (waited, before timeout-field (omega arith))
 
     pub wakes-wait : waited-for (each (woken m key) (positions Jobs) p) k ≡ cond (waits p m k) 0 (waited-for p k)
-    wakes-wait = turn 6 (omega arith) ∙ woken-wait m key so-far k l so-long ∙ rw (waited, before 6 (omega arith))
+    wakes-wait = turn wait-field (omega arith) ∙ woken-wait m key so-far k l so-long ∙ rw (waited, before wait-field (omega arith))
 
     pub wakes-key : delivered (each (woken m key) (positions Jobs) p) k ≡ cond (waits p m k) key (delivered p k)
-    wakes-key = turn 7 (omega arith) ∙ woken-key m key so-far k l so-long ∙ rw (waited, before 7 (omega arith))
+    wakes-key = turn key-field (omega arith) ∙ woken-key m key so-far k l so-long ∙ rw (waited, before key-field (omega arith))

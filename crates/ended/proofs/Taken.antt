@@ -10,10 +10,10 @@ use native.Mathlib.Omega.{arith}
 use Rattle.words.specs.Words.{word, put}
 use Rattle.words.specs.Bits.{bit}
 use Rattle.picture.specs.Layout.{nobody, current-word, mask-word, positions, width, first-record, heap-base}
-use Rattle.picture.specs.Records.{slot, field, accumulated, timeout, waited-for, delivered, used}
+use Rattle.picture.specs.Records.{slot, field, base-field, priority-field, accumulated-field, timeout-field, wait-field, key-field, priority, accumulated, timeout, waited-for, delivered, used}
 use Rattle.picture.specs.declared.Table.{Table}
 use Rattle.picture.specs.declared.Table.the-variants.{Jobs, Channels}
-use Rattle.picture.proofs.Records.{slot-within}
+use Rattle.picture.proofs.Records.{slot-within, shared}
 use Rattle.facts.proofs.Same.{used-same}
 use Rattle.calls.specs.Writes.{with-nobody}
 use Rattle.emptying.specs.Each.{each}
@@ -34,8 +34,9 @@ pub record Taken (p q : List ℕ) (m c key : ℕ) : Type 0 where
   pub dies : (t : Table) (k : ℕ) → bit (going m c t) k ≡ true → used q t k ≡ false
   pub stays : (t : Table) (k : ℕ) → bit (going m c t) k ≡ false → used q t k ≡ used p t k
   pub blank : (t : Table) (k f : ℕ) → k < positions t → f < width t → bit (going m c t) k ≡ true → field q t k f ≡ 0
-  pub same : (t : Table) (k f : ℕ) → k < positions t → f < 4 → bit (going m c t) k ≡ false → field q t k f ≡ field p t k f
-  pub gains : (k : ℕ) → k < positions Jobs → bit m k ≡ false → accumulated q k ≡ accumulated p k
+  pub same : (t : Table) (k f : ℕ) → k < positions t → f ≤ base-field → bit (going m c t) k ≡ false → field q t k f ≡ field p t k f
+  pub same-job : (k f : ℕ) → k < positions Jobs → f < width Jobs → (f ≡ timeout-field → ⊥) → (f ≡ wait-field → ⊥) → (f ≡ key-field → ⊥) → bit m k ≡ false → field q Jobs k f ≡ field p Jobs k f
+  pub same-channel : (k f : ℕ) → k < positions Channels → f < width Channels → bit c k ≡ false → field q Channels k f ≡ field p Channels k f
   pub frames : (k : ℕ) → k < positions Jobs → bit m k ≡ false → timeout q k ≡ cond (waits p m k) 0 (timeout p k)
   pub wait : (k : ℕ) → k < positions Jobs → bit m k ≡ false → waited-for q k ≡ cond (waits p m k) 0 (waited-for p k)
   pub gets : (k : ℕ) → k < positions Jobs → bit m k ≡ false → delivered q k ≡ cond (waits p m k) key (delivered p k)
@@ -74,7 +75,7 @@ module _ (p : List ℕ) (m c key : ℕ) (long : heap-base ≤ length p) (mf : m 
   past-current x n = getD-set-other (emptied j Channels c) current-word x nobody 0 n
 
   -- a field of a job's record
-  job-field : (k f : ℕ) → k < positions Jobs → f < 8 → field q Jobs k f ≡ cond (bit m k) 0 (field w Jobs k f)
+  job-field : (k f : ℕ) → k < positions Jobs → f < width Jobs → field q Jobs k f ≡ cond (bit m k) 0 (field w Jobs k f)
   unfolding j
   job-field k f l h =
       past-current (slot Jobs k + f) (λ z. omega arith)
@@ -82,11 +83,11 @@ module _ (p : List ℕ) (m c key : ℕ) (long : heap-base ≤ length p) (mf : m 
       ∙ emptied-record w Jobs m w-long k f l h
 
   -- those that waking leaves
-  job-same : (k f : ℕ) → k < positions Jobs → f < 5 → field w Jobs k f ≡ field p Jobs k f
+  job-same : (k f : ℕ) → k < positions Jobs → f < width Jobs → (f ≡ timeout-field → ⊥) → (f ≡ wait-field → ⊥) → (f ≡ key-field → ⊥) → field w Jobs k f ≡ field p Jobs k f
   unfolding w
-  job-same k f l h = wakes-other m key p (slot Jobs k + f) (λ i o g a b z. omega arith)
+  job-same k f l h n₅ n₆ n₇ = wakes-other m key p (slot Jobs k + f) (λ i o g a b z. omega arith)
 
-  channel-field : (k f : ℕ) → k < positions Channels → f < 4 → field q Channels k f ≡ cond (bit c k) 0 (field p Channels k f)
+  channel-field : (k f : ℕ) → k < positions Channels → f < width Channels → field q Channels k f ≡ cond (bit c k) 0 (field p Channels k f)
   unfolding j w
   channel-field k f l h =
       past-current (slot Channels k + f) (λ z. omega arith)
@@ -124,9 +125,15 @@ module _ (p : List ℕ) (m c key : ℕ) (long : heap-base ≤ length p) (mf : m 
   blank-by Jobs k f l h b = job-field k f l h ∙ rw b
   blank-by Channels k f l h b = channel-field k f l h ∙ rw b
 
-  same-by : (t : Table) (k f : ℕ) → k < positions t → f < 4 → bit (going m c t) k ≡ false → field q t k f ≡ field p t k f
-  same-by Jobs k f l h b = job-field k f l (omega arith) ∙ rw b (job-same k f l (omega arith))
-  same-by Channels k f l h b = channel-field k f l h ∙ rw b
+  same-job-by : (k f : ℕ) → k < positions Jobs → f < width Jobs → (f ≡ timeout-field → ⊥) → (f ≡ wait-field → ⊥) → (f ≡ key-field → ⊥) → bit m k ≡ false → field q Jobs k f ≡ field p Jobs k f
+  same-job-by k f l h n₅ n₆ n₇ b = job-field k f l h ∙ rw b (job-same k f l h n₅ n₆ n₇)
+
+  same-channel-by : (k f : ℕ) → k < positions Channels → f < width Channels → bit c k ≡ false → field q Channels k f ≡ field p Channels k f
+  same-channel-by k f l h b = channel-field k f l h ∙ rw b
+
+  same-by : (t : Table) (k f : ℕ) → k < positions t → f ≤ base-field → bit (going m c t) k ≡ false → field q t k f ≡ field p t k f
+  same-by Jobs k f l h b = same-job-by k f l (omega arith) (λ e. omega arith) (λ e. omega arith) (λ e. omega arith) b
+  same-by Channels k f l h b = same-channel-by k f l (omega arith) b
 
   jw : (x : ℕ) → x < first-record Jobs → (x ≡ mask-word Jobs → ⊥) → word j x ≡ word w x
   unfolding j
@@ -142,10 +149,11 @@ module _ (p : List ℕ) (m c key : ℕ) (long : heap-base ≤ length p) (mf : m 
     stays = stays-by;
     blank = blank-by;
     same = same-by;
-    gains = λ k l b. job-field k 4 l (omega arith) ∙ rw b (job-same k 4 l (omega arith));
-    frames = λ k l b. job-field k 5 l (omega arith) ∙ rw b (wakes-timeout m key p k l long);
-    wait = λ k l b. job-field k 6 l (omega arith) ∙ rw b (wakes-wait m key p k l long);
-    gets = λ k l b. job-field k 7 l (omega arith) ∙ rw b (wakes-key m key p k l long);
+    same-job = same-job-by;
+    same-channel = same-channel-by;
+    frames = λ k l b. job-field k timeout-field l (omega arith) ∙ rw b (wakes-timeout m key p k l long);
+    wait = λ k l b. job-field k wait-field l (omega arith) ∙ rw b (wakes-wait m key p k l long);
+    gets = λ k l b. job-field k key-field l (omega arith) ∙ rw b (wakes-key m key p k l long);
   }
 
   -- the areas are not touched
@@ -165,6 +173,13 @@ module _ (p : List ℕ) (m c key : ℕ) (long : heap-base ≤ length p) (mf : m 
   unfolding taken q j w
   taken-above x l = q-above x l
 
+-- what a job outside the tree has accumulated, and its priority
+pub taken-gains : (p q : List ℕ) (m c key : ℕ) → Taken p q m c key → (k : ℕ) → k < positions Jobs → bit m k ≡ false → accumulated q k ≡ accumulated p k
+taken-gains p q m c key T k l b = T .same-job k accumulated-field l (omega arith) (λ e. omega arith) (λ e. omega arith) (λ e. omega arith) b
+
+pub taken-priority : (p q : List ℕ) (m c key : ℕ) → Taken p q m c key → (k : ℕ) → k < positions Jobs → bit m k ≡ false → priority q k ≡ priority p k
+taken-priority p q m c key T k l b = T .same-job k priority-field l (omega arith) (λ e. omega arith) (λ e. omega arith) (λ e. omega arith) b
+
 -- the same, from a picture with the same tables
 pub taken-from : (p y q : List ℕ) (m c key : ℕ) → length y ≡ length p → ((x : ℕ) → x < heap-base → word y x ≡ word p x) → Taken y q m c key → Taken p q m c key
 taken-from p y q m c key long low T = record {
@@ -174,17 +189,14 @@ taken-from p y q m c key long low T = record {
   dies = T .dies;
   stays = λ t k b. T .stays t k b ∙ uses t k;
   blank = T .blank;
-  same = λ t k f l h b. T .same t k f l h b ∙ fields t k f l (four t f h);
-  gains = λ k l b. T .gains k l b ∙ fields Jobs k 4 l (omega arith);
-  frames = λ k l b. T .frames k l b ∙ rw (waited k l, fields Jobs k 5 l (omega arith));
-  wait = λ k l b. T .wait k l b ∙ rw (waited k l, fields Jobs k 6 l (omega arith));
-  gets = λ k l b. T .gets k l b ∙ rw (waited k l, fields Jobs k 7 l (omega arith));
+  same = λ t k f l h b. T .same t k f l h b ∙ fields t k f l (shared t f h);
+  same-job = λ k f l h n₅ n₆ n₇ b. T .same-job k f l h n₅ n₆ n₇ b ∙ fields Jobs k f l h;
+  same-channel = λ k f l h b. T .same-channel k f l h b ∙ fields Channels k f l h;
+  frames = λ k l b. T .frames k l b ∙ rw (waited k l, fields Jobs k timeout-field l (omega arith));
+  wait = λ k l b. T .wait k l b ∙ rw (waited k l, fields Jobs k wait-field l (omega arith));
+  gets = λ k l b. T .gets k l b ∙ rw (waited k l, fields Jobs k key-field l (omega arith));
 }
   where
-    four : (t : Table) (f : ℕ) → f < 4 → f < width t
-    four Jobs f h = omega arith
-    four Channels f h = h
-
     fields : (t : Table) (k f : ℕ) → k < positions t → f < width t → field y t k f ≡ field p t k f
     fields t k f l h = let w = slot-within t k l in low (slot t k + f) (omega arith)
 
@@ -193,4 +205,4 @@ taken-from p y q m c key long low T = record {
     uses Channels k = used-same p y Channels (low (mask-word Channels) (omega arith)) k
 
     waited : (k : ℕ) → k < positions Jobs → waits y m k ≡ waits p m k
-    waited k l = waits-same p y m k (uses Jobs k) (fields Jobs k 6 l (omega arith))
+    waited k l = waits-same p y m k (uses Jobs k) (fields Jobs k wait-field l (omega arith))

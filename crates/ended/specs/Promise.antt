@@ -7,13 +7,13 @@ use mathlib.Core.List.{List}
 use Rattle.words.specs.Words.{word}
 use Rattle.words.specs.Each.{In}
 use Rattle.picture.specs.Layout.{nobody, current-word, positions, width}
-use Rattle.picture.specs.Records.{field, owner, base, timeout, waited-for, delivered, used, active}
+use Rattle.picture.specs.Records.{field, timeout-field, wait-field, key-field, owner, base, timeout, waited-for, delivered, used, active}
 use Rattle.picture.specs.Numbers.{position, live}
 use Rattle.picture.specs.declared.Table.{Table}
 use Rattle.picture.specs.declared.Table.the-variants.{Jobs, Channels}
 use Rattle.picture.specs.declared.Area.{Area}
 use Rattle.picture.specs.declared.Area.the-variants.{Transient}
-use Rattle.blocks.specs.Header.{size, free, holder}
+use Rattle.blocks.specs.Header.{header-width, size, free, holder}
 use Rattle.blocks.specs.Walk.{blocks}
 use Rattle.tree.specs.Under.{Under}
 
@@ -32,13 +32,13 @@ pub record Woken (q : List ℕ) (k key : ℕ) : Type 0 where
 pub record Leaves (p q : List ℕ) (t key : ℕ) : Type 0 where
   pub jobs-stay : (k : ℕ) → used p Jobs k ≡ true → (Under p t k → ⊥) → used q Jobs k ≡ true
   pub channels-stay : (k : ℕ) → used p Channels k ≡ true → (Member p t (owner p Channels k) → ⊥) → used q Channels k ≡ true
-  pub jobs : (k f : ℕ) → used p Jobs k ≡ true → (Under p t k → ⊥) → f < 5 → field q Jobs k f ≡ field p Jobs k f
-  pub channels : (k f : ℕ) → used p Channels k ≡ true → (Member p t (owner p Channels k) → ⊥) → f < 4 → field q Channels k f ≡ field p Channels k f
+  pub jobs : (k f : ℕ) → used p Jobs k ≡ true → (Under p t k → ⊥) → f < width Jobs → (f ≡ timeout-field → ⊥) → (f ≡ wait-field → ⊥) → (f ≡ key-field → ⊥) → field q Jobs k f ≡ field p Jobs k f
+  pub channels : (k f : ℕ) → used p Channels k ≡ true → (Member p t (owner p Channels k) → ⊥) → f < width Channels → field q Channels k f ≡ field p Channels k f
   pub waiters : (k : ℕ) → used p Jobs k ≡ true → (Under p t k → ⊥) → Member p t (waited-for p k) → Woken q k key
-  pub others : (k f : ℕ) → used p Jobs k ≡ true → (Under p t k → ⊥) → (Member p t (waited-for p k) → ⊥) → f < 8 → field q Jobs k f ≡ field p Jobs k f
+  pub others : (k f : ℕ) → used p Jobs k ≡ true → (Under p t k → ⊥) → (Member p t (waited-for p k) → ⊥) → f < width Jobs → field q Jobs k f ≡ field p Jobs k f
   pub blocks-stay : (r : Area) (i : ℕ) → In i (blocks p r) → free p i ≡ false → (Member p t (holder p i) → ⊥) → (base p Jobs t ≡ 4 * i → ⊥) → In i (blocks q r)
   pub block-longwords : (r : Area) (i : ℕ) → In i (blocks p r) → free p i ≡ false → (Member p t (holder p i) → ⊥) → (base p Jobs t ≡ 4 * i → ⊥) → (k : ℕ) → i ≤ k → k < i + size p i / 4 → word q k ≡ word p k
-  pub rooms : (r : Area) (i : ℕ) → In i (blocks p r) → (k : ℕ) → i + 4 ≤ k → k < i + size p i / 4 → word q k ≡ word p k
+  pub rooms : (r : Area) (i : ℕ) → In i (blocks p r) → (k : ℕ) → i + header-width ≤ k → k < i + size p i / 4 → word q k ≡ word p k
 
 -- nothing owned by the tree is left, and nobody is current
 pub record Takes (p q : List ℕ) (t : ℕ) : Type 0 where

@@ -16,8 +16,9 @@ use words::word;
 ghost use mathlib.Core.Path.{_≡_};
 ghost use mathlib.Core.Bool.{true};
 ghost use Prim.Native.Nat.{_≤_, _<_};
-ghost use Rattle.picture.specs.Layout.{upto, greatest-size as greatestSize};
+ghost use Rattle.picture.specs.Layout.{positions, upto, greatest-size as greatestSize};
 ghost use Rattle.picture.specs.declared.Area.the-variants.{Heap, Transient};
+ghost use Rattle.picture.specs.declared.Table.the-variants.{Jobs};
 ghost use Rattle.sound.specs.Sound.{sound};
 ghost use Rattle.calls.specs.Outcome.{Meets};
 ghost use Rattle.calls.specs.Call.{outcome};
@@ -52,7 +53,7 @@ pub fn return_blocks(p: &mut [u32], mask: u32, block: usize)
 
 // The tree of the job at position t is ended.
 pub fn end_tree(p: &mut [u32], t: usize, key: u32)
-    requires { ⌜ (t < 32) × ((upto (now p) Heap ≤ greatestSize) × (upto (now p) Transient ≤ greatestSize)) ⌝ }
+    requires { ⌜ (t < positions Jobs) × ((upto (now p) Heap ≤ greatestSize) × (upto (now p) Transient ≤ greatestSize)) ⌝ }
     ensures { λ _. ⌜ now (p .exit) ≡ ended (now (p .entry)) t key ⌝ }
 {
     let mask = tree_of(p, t);

@@ -5,11 +5,10 @@ use mathlib.Core.List.{List}
 use lib.Dec.{ltb}
 use Rattle.words.specs.Words.{word, put, clear}
 use Rattle.picture.specs.Layout.{positions, width, mask-word, last-word, greatest-tag}
-use Rattle.picture.specs.Records.{slot}
+use Rattle.picture.specs.Records.{slot, with-number, with-owner, with-base}
 use Rattle.picture.specs.Numbers.{number-of, free-position}
 use Rattle.picture.specs.declared.Table.{Table}
 use Rattle.masks.specs.Masks.{with-bit}
-use Rattle.calls.specs.Writes.{with-field}
 
 -- "Position (the lowest clear bit of the mask)": one is free
 unfoldable pub has-position : List ℕ → Table → Bool
@@ -27,7 +26,7 @@ next-number p t = number-of (next-tag p t) (free-position p t)
 
 -- the record of position k: "all but number, owner and base 0"
 unfoldable pub recorded : List ℕ → Table → ℕ → ℕ → ℕ → ℕ → List ℕ
-recorded p t k n o b = with-field (with-field (with-field (clear (width t) p (slot t k)) t k 0 n) t k 1 o) t k 2 b
+recorded p t k n o b = with-base (with-owner (with-number (clear (width t) p (slot t k)) t k n) t k o) t k b
 
 -- position k is in use, and g is the last tag given
 unfoldable pub counted : List ℕ → Table → ℕ → ℕ → List ℕ

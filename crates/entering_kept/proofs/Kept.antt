@@ -10,12 +10,12 @@ use Rattle.words.specs.Words.{word}
 use Rattle.words.specs.Bits.{bit}
 use Rattle.words.proofs.Bits.{Lowest, lowest-clear-is}
 use Rattle.words.proofs.Tests.{both, false-true, lt-or-ge}
-use Rattle.picture.specs.Layout.{positions, width, mask-word, last-word, greatest-tag}
-use Rattle.picture.specs.Records.{slot, field, number, owner, used}
-use Rattle.picture.specs.Numbers.{tag, position, number-of, live, free-position}
+use Rattle.picture.specs.Layout.{positions, width, mask-word, last-word, greatest-tag, first-job}
+use Rattle.picture.specs.Records.{slot, field, number, owner, used, number-field, owner-field}
+use Rattle.picture.specs.Numbers.{tag-weight, tag, position, number-of, live, free-position}
 use Rattle.picture.specs.declared.Table.{Table}
 use Rattle.picture.specs.declared.Table.the-variants.{Jobs, Channels}
-use Rattle.picture.proofs.Records.{slot-within, positions-within, used-below, used-is}
+use Rattle.picture.proofs.Records.{slot-within, positions-named, used-below, used-is}
 use Rattle.picture.proofs.Numbers.{Live, live-is, is-live}
 use Rattle.headers.specs.Area.{Outside}
 use Rattle.headers.proofs.Header.{same-or-not}
@@ -34,10 +34,10 @@ unfolding free-position
 free-position-is-free p t l = used-is p t _ l ∙ lowest-clear-is (positions t) (word p (mask-word t)) .free l
 
 -- the number of a tag and a position
-pub number-position : (g k : ℕ) → k < 65536 → position (number-of g k) ≡ k
+pub number-position : (g k : ℕ) → k < tag-weight → position (number-of g k) ≡ k
 number-position g k l = omega arith
 
-pub number-tag : (g k : ℕ) → k < 65536 → tag (number-of g k) ≡ g
+pub number-tag : (g k : ℕ) → k < tag-weight → tag (number-of g k) ≡ g
 number-tag g k l = omega arith
 
 -- two tables are the same or not
@@ -68,8 +68,8 @@ other-last Channels Jobs n = (λ e. omega arith, λ e. omega arith)
 other-last Channels Channels n = absurd (n refl)
 
 module _ (p q : List ℕ) (t : Table) (k g o b : ℕ) (E : Entered p q t k g o b) (there : k < positions t) (vacant : used p t k ≡ false) where
-  small : k < 65536
-  small = let h = positions-within t in omega arith
+  small : k < tag-weight
+  small = let h = positions-named t in omega arith
 
   -- every field of another entry, and every longword before the tables but two
   pub field-other : (u : Table) (j f : ℕ) → j < positions u → f < width u → ((u ≡ t) × (j ≡ k) → ⊥) → field q u j f ≡ field p u j f
@@ -80,7 +80,7 @@ module _ (p q : List ℕ) (t : Table) (k g o b : ℕ) (E : Entered p q t k g o b
       let e = places t .last-low in
       E .other (slot u j + f) (omega arith) (away t u j k f l m there x) (λ z. omega arith) (λ z. omega arith)
 
-  pub low-other : (j : ℕ) → j < 8 → (j ≡ mask-word t → ⊥) → (j ≡ last-word t → ⊥) → word q j ≡ word p j
+  pub low-other : (j : ℕ) → j < first-job → (j ≡ mask-word t → ⊥) → (j ≡ last-word t → ⊥) → word q j ≡ word p j
   low-other j l m n = let a = places t .after in E .other j (omega arith) (inl (omega arith)) m n
 
   module _ (u : Table) (n : u ≡ t → ⊥) where
@@ -94,7 +94,7 @@ module _ (p q : List ℕ) (t : Table) (k g o b : ℕ) (E : Entered p q t k g o b
     other-table-field j f l m = field-other u j f l m (λ z. n (z .0))
 
     other-table-number : (j : ℕ) → j < positions u → number q u j ≡ number p u j
-    other-table-number j l = let w = places u .wide in other-table-field j 0 l (omega arith)
+    other-table-number j l = let w = places u .wide in other-table-field j number-field l (omega arith)
 
     pub other-table-live : (m : ℕ) → live q u m ≡ live p u m
     other-table-live m = live-same p q u other-table-mask other-table-number m
@@ -120,10 +120,10 @@ module _ (p q : List ℕ) (t : Table) (k g o b : ℕ) (E : Entered p q t k g o b
   field-old j f l m n = field-other t j f l m (λ z. n (z .1))
 
   number-old : (j : ℕ) → j < positions t → (j ≡ k → ⊥) → number q t j ≡ number p t j
-  number-old j l n = let w = places t .wide in field-old j 0 l (omega arith) n
+  number-old j l n = let w = places t .wide in field-old j number-field l (omega arith) n
 
   owner-old : (j : ℕ) → j < positions t → (j ≡ k → ⊥) → owner q t j ≡ owner p t j
-  owner-old j l n = let w = places t .wide in field-old j 1 l (omega arith) n
+  owner-old j l n = let w = places t .wide in field-old j owner-field l (omega arith) n
 
   -- what was live is live
   pub lives-in-both : (u : Table) (m : ℕ) → live p u m ≡ true → live q u m ≡ true
@@ -153,7 +153,7 @@ module _ (p q : List ℕ) (t : Table) (k g o b : ℕ) (E : Entered p q t k g o b
           rises = rw (E .last) (omega arith);
           newer = λ m h. ⊎-elim (λ (z : m ≡ number-of g k). inr (let y = small in rw z (omega arith))) inl (live-new-or-old m h);
         }))
-        (λ n. ages-same p q u (other-table-last u n) (other-table-mask u n) (λ j l. let w = places u .wide in other-table-field u n j 0 l (omega arith)))
+        (λ n. ages-same p q u (other-table-last u n) (other-table-mask u n) (λ j l. let w = places u .wide in other-table-field u n j number-field l (omega arith)))
         (same-table t u)
 
     pub entering-keeps-the-records : Entries p t → g ≤ greatest-tag → Owned q (may-be-unowned t) o → Entries q t

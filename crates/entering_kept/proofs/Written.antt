@@ -8,8 +8,8 @@ use lib.Seq.{getD-set-same, getD-set-other}
 use native.Mathlib.Omega.{arith}
 use Rattle.words.specs.Words.{word, put, clear}
 use Rattle.words.proofs.Words.{length-clear}
-use Rattle.picture.specs.Layout.{heap-base, positions, width, first-record, mask-word, last-word}
-use Rattle.picture.specs.Records.{slot, field, number, owner, base}
+use Rattle.picture.specs.Layout.{heap-base, positions, width, first-record, mask-word, last-word, first-job}
+use Rattle.picture.specs.Records.{slot, field, number, owner, base, base-field, number-field, owner-field}
 use Rattle.picture.specs.Numbers.{number-of}
 use Rattle.picture.specs.declared.Table.{Table}
 use Rattle.picture.specs.declared.Table.the-variants.{Jobs, Channels}
@@ -27,56 +27,56 @@ pub record Entered (p q : List ℕ) (t : Table) (k g o b : ℕ) : Type 0 where
   pub its-number : number q t k ≡ number-of g k
   pub its-owner : owner q t k ≡ o
   pub its-base : base q t k ≡ b
-  pub its-rest : (f : ℕ) → 3 ≤ f → f < width t → field q t k f ≡ 0
+  pub its-rest : (f : ℕ) → base-field < f → f < width t → field q t k f ≡ 0
   pub mask : word q (mask-word t) ≡ with-bit (word p (mask-word t)) k
   pub last : word q (last-word t) ≡ g
 
 -- a record of w longwords at s that holds n, o and b
-module _ (p : List ℕ) (s w n o b : ℕ) (wide : 3 ≤ w) (inside : s + w ≤ length p) where
+module _ (p : List ℕ) (s w n o b : ℕ) (wide : base-field < w) (inside : s + w ≤ length p) where
   abbrev cleared : List ℕ
   cleared = clear w p s
 
   abbrev row : List ℕ
-  row = put (put (put (clear w p s) (s + 0) n) (s + 1) o) (s + 2) b
+  row = put (put (put (clear w p s) (s + number-field) n) (s + owner-field) o) (s + base-field) b
 
   row-long : length row ≡ length p
   row-long = simp length-set (length-clear w p s)
 
   row-other : (j : ℕ) → Outside s (s + w) j → word row j ≡ word p j
   row-other j h =
-      let x : (f : ℕ) → f < 3 → j ≡ s + f → ⊥ = λ f l e. ⊎-elim (λ (a : j < s). omega arith) (λ (a : s + w ≤ j). omega arith) h in
-      getD-set-other (put (put cleared (s + 0) n) (s + 1) o) (s + 2) j b 0 (x 2 (omega arith))
-      ∙ getD-set-other (put cleared (s + 0) n) (s + 1) j o 0 (x 1 (omega arith))
-      ∙ getD-set-other cleared (s + 0) j n 0 (x 0 (omega arith))
+      let x : (f : ℕ) → f ≤ base-field → j ≡ s + f → ⊥ = λ f l e. ⊎-elim (λ (a : j < s). omega arith) (λ (a : s + w ≤ j). omega arith) h in
+      getD-set-other (put (put cleared (s + number-field) n) (s + owner-field) o) (s + base-field) j b 0 (x base-field (omega arith))
+      ∙ getD-set-other (put cleared (s + number-field) n) (s + owner-field) j o 0 (x owner-field (omega arith))
+      ∙ getD-set-other cleared (s + number-field) j n 0 (x number-field (omega arith))
       ∙ clear-other w p s j h
 
-  row-first : word row (s + 0) ≡ n
+  row-first : word row (s + number-field) ≡ n
   row-first =
-      getD-set-other (put (put cleared (s + 0) n) (s + 1) o) (s + 2) (s + 0) b 0 (λ e. omega arith)
-      ∙ getD-set-other (put cleared (s + 0) n) (s + 1) (s + 0) o 0 (λ e. omega arith)
-      ∙ getD-set-same cleared (s + 0) n 0 (rw (length-clear w p s) (omega arith))
+      getD-set-other (put (put cleared (s + number-field) n) (s + owner-field) o) (s + base-field) (s + number-field) b 0 (λ e. omega arith)
+      ∙ getD-set-other (put cleared (s + number-field) n) (s + owner-field) (s + number-field) o 0 (λ e. omega arith)
+      ∙ getD-set-same cleared (s + number-field) n 0 (rw (length-clear w p s) (omega arith))
 
-  row-second : word row (s + 1) ≡ o
+  row-second : word row (s + owner-field) ≡ o
   row-second =
-      getD-set-other (put (put cleared (s + 0) n) (s + 1) o) (s + 2) (s + 1) b 0 (λ e. omega arith)
-      ∙ getD-set-same (put cleared (s + 0) n) (s + 1) o 0 (simp length-set (rw (length-clear w p s) (omega arith)))
+      getD-set-other (put (put cleared (s + number-field) n) (s + owner-field) o) (s + base-field) (s + owner-field) b 0 (λ e. omega arith)
+      ∙ getD-set-same (put cleared (s + number-field) n) (s + owner-field) o 0 (simp length-set (rw (length-clear w p s) (omega arith)))
 
-  row-third : word row (s + 2) ≡ b
-  row-third = getD-set-same (put (put cleared (s + 0) n) (s + 1) o) (s + 2) b 0 (simp length-set (rw (length-clear w p s) (omega arith)))
+  row-third : word row (s + base-field) ≡ b
+  row-third = getD-set-same (put (put cleared (s + number-field) n) (s + owner-field) o) (s + base-field) b 0 (simp length-set (rw (length-clear w p s) (omega arith)))
 
-  row-rest : (f : ℕ) → 3 ≤ f → f < w → word row (s + f) ≡ 0
+  row-rest : (f : ℕ) → base-field < f → f < w → word row (s + f) ≡ 0
   row-rest f l m =
-      getD-set-other (put (put cleared (s + 0) n) (s + 1) o) (s + 2) (s + f) b 0 (λ e. omega arith)
-      ∙ getD-set-other (put cleared (s + 0) n) (s + 1) (s + f) o 0 (λ e. omega arith)
-      ∙ getD-set-other cleared (s + 0) (s + f) n 0 (λ e. omega arith)
+      getD-set-other (put (put cleared (s + number-field) n) (s + owner-field) o) (s + base-field) (s + f) b 0 (λ e. omega arith)
+      ∙ getD-set-other (put cleared (s + number-field) n) (s + owner-field) (s + f) o 0 (λ e. omega arith)
+      ∙ getD-set-other cleared (s + number-field) (s + f) n 0 (λ e. omega arith)
       ∙ clear-zeros w p s (s + f) inside (omega arith) (omega arith)
 
 -- where the mask and the last tag stand
 pub record Places (t : Table) : Type 0 where
-  pub wide : 3 ≤ width t
-  pub after : 8 ≤ first-record t
-  pub mask-low : mask-word t < 8
-  pub last-low : last-word t < 8
+  pub wide : base-field < width t
+  pub after : first-job ≤ first-record t
+  pub mask-low : mask-word t < first-job
+  pub last-low : last-word t < first-job
   pub differ : mask-word t ≡ last-word t → ⊥
 
 pub places : (t : Table) → Places t
@@ -110,7 +110,7 @@ module _ (p : List ℕ) (t : Table) (k g o b : ℕ) (there : k < positions t) (w
   unfolding entered counted
   Q-past j m l = getD-set-other (put R (mask-word t) (with-bit (word R (mask-word t)) k)) (last-word t) j g 0 l ∙ getD-set-other R (mask-word t) j (with-bit (word R (mask-word t)) k) 0 m
 
-  Q-above : (j : ℕ) → 8 ≤ j → word Q j ≡ word R j
+  Q-above : (j : ℕ) → first-job ≤ j → word Q j ≡ word R j
   Q-above j l = let a = places t .mask-low in let c = places t .last-low in Q-past j (λ e. omega arith) (λ e. omega arith)
 
   of-record : (f : ℕ) → word Q (slot t k + f) ≡ word R (slot t k + f)
@@ -118,17 +118,17 @@ module _ (p : List ℕ) (t : Table) (k g o b : ℕ) (there : k < positions t) (w
 
   Q-number : number Q t k ≡ number-of g k
   unfolding recorded
-  Q-number = of-record 0 ∙ row-first p (slot t k) (width t) (number-of g k) o b (places t .wide) fits
+  Q-number = of-record number-field ∙ row-first p (slot t k) (width t) (number-of g k) o b (places t .wide) fits
 
   Q-owner : owner Q t k ≡ o
   unfolding recorded
-  Q-owner = of-record 1 ∙ row-second p (slot t k) (width t) (number-of g k) o b (places t .wide) fits
+  Q-owner = of-record owner-field ∙ row-second p (slot t k) (width t) (number-of g k) o b (places t .wide) fits
 
   Q-base : base Q t k ≡ b
   unfolding recorded
-  Q-base = of-record 2 ∙ row-third p (slot t k) (width t) (number-of g k) o b (places t .wide) fits
+  Q-base = of-record base-field ∙ row-third p (slot t k) (width t) (number-of g k) o b (places t .wide) fits
 
-  Q-rest : (f : ℕ) → 3 ≤ f → f < width t → field Q t k f ≡ 0
+  Q-rest : (f : ℕ) → base-field < f → f < width t → field Q t k f ≡ 0
   unfolding recorded
   Q-rest f l m = of-record f ∙ row-rest p (slot t k) (width t) (number-of g k) o b (places t .wide) fits f l m
 

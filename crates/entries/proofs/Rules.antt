@@ -14,7 +14,7 @@ use Rattle.picture.specs.Layout.{width}
 use Rattle.picture.specs.Records.{field, base, number, used}
 use Rattle.picture.specs.declared.Table.{Table}
 use Rattle.picture.specs.declared.Table.the-variants.{Jobs, Channels}
-use Rattle.tables.proofs.Within.{shared}
+use Rattle.picture.proofs.Records.{shared}
 use Rattle.matching.specs.Match.{first, claims}
 use Rattle.records.specs.Rules.{zero-base, priority-within, accumulated-within, timeout-within, ends-in-one, blank, positioned, zero-exists, tag-within, tag-once, owner-live, owner-older, zero-unowned, tag-given, waits-well, idle-zero}
 use Rattle.records.proofs.Used.{claims-used}

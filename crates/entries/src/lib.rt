@@ -31,7 +31,7 @@ pub fn is_entry_fine(p: &[u32], t: Table, k: usize) -> bool
 
 // The rules of job 0; any other job keeps them.
 pub fn is_zero_fine(p: &[u32], k: usize) -> bool
-    requires { ⌜ (heapBase ≤ length (now p)) × ((k < 32) × (used (now p) Jobs k ≡ true)) ⌝ }
+    requires { ⌜ (heapBase ≤ length (now p)) × ((k < positions Jobs) × (used (now p) Jobs k ≡ true)) ⌝ }
     ensures { λ r. ⌜ r ≡ zeroFine (now (p .entry)) k ⌝ }
 {
     if k != 0 {
@@ -43,7 +43,7 @@ pub fn is_zero_fine(p: &[u32], k: usize) -> bool
 
 // The rules of a job in use.
 pub fn is_job_fine(p: &[u32], k: usize) -> bool
-    requires { ⌜ (heapBase ≤ length (now p)) × ((k < 32) × (used (now p) Jobs k ≡ true)) ⌝ }
+    requires { ⌜ (heapBase ≤ length (now p)) × ((k < positions Jobs) × (used (now p) Jobs k ≡ true)) ⌝ }
     ensures { λ r. ⌜ r ≡ liveFine (now (p .entry)) Jobs k ⌝ }
 {
     if !is_entry_fine(p, Table::Jobs, k) {
@@ -72,7 +72,7 @@ pub fn is_job_fine(p: &[u32], k: usize) -> bool
 
 // The rules of a channel in use.
 pub fn is_channel_fine(p: &[u32], k: usize) -> bool
-    requires { ⌜ (heapBase ≤ length (now p)) × ((k < 32) × (used (now p) Channels k ≡ true)) ⌝ }
+    requires { ⌜ (heapBase ≤ length (now p)) × ((k < positions Channels) × (used (now p) Channels k ≡ true)) ⌝ }
     ensures { λ r. ⌜ r ≡ liveFine (now (p .entry)) Channels k ⌝ }
 {
     if !is_entry_fine(p, Table::Channels, k) {

@@ -10,6 +10,9 @@ use native.Mathlib.Nat.{div-eq-of-lt}
 use native.Mathlib.Omega.{arith}
 use Rattle.words.specs.Each.{In, total}
 use Rattle.words.specs.Bits.{bit}
+use Rattle.picture.specs.Layout.{positions}
+use Rattle.picture.specs.Numbers.{position}
+use Rattle.picture.specs.declared.Table.the-variants.{Jobs}
 use Rattle.blocks.specs.Header.{size, free, holder}
 use Rattle.blocks.specs.Walk.{starts}
 use Rattle.blocks.proofs.Starts.{Rising, starts-rising, rising-in}
@@ -21,7 +24,7 @@ no-bit : (k : ℕ) → bit 0 k ≡ false
 no-bit k = let z : 0 / 2 ^ k ≡ 0 = div-eq-of-lt (pow-pos k) in rw z
 
 none-named : (o : ℕ) → named 0 o ≡ false
-none-named o = rw (no-bit (o % 65536)) (go (ltb (o % 65536) 32))
+none-named o = rw (no-bit (position o)) (go (ltb (position o) (positions Jobs)))
   where
     go : (b : Bool) → b && false ≡ false
     go true = refl

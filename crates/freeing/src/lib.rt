@@ -1,6 +1,8 @@
 // Giving blocks of an area of a lent picture back: one sweep frees those that go and joins free neighbours.
 // A block goes if it is in use and is the one at `block`, or its owner's position is in `mask`.
 use blocks::FREE;
+use blocks::HOLDER;
+use blocks::KIND;
 use blocks::next_block;
 use headers::put_header;
 use picture::JOBS;
@@ -16,7 +18,7 @@ ghost use Rattle.freeing.specs.Sweep.{named, goes, freed, absorbed, join
 pub fn is_named(mask: u32, owner: u32) -> bool
     ensures { λ r. ⌜ r ≡ named mask owner ⌝ }
 {
-    let k = (owner % 65536) as usize;
+    let k = picture::position_of(owner);
     if k < JOBS {
         return is_set(mask, k);
     }
@@ -28,7 +30,7 @@ pub fn is_going(p: &[u32], mask: u32, block: usize, i: usize) -> bool
     requires { ⌜ i < greatestSize ⌝ }
     ensures { λ r. ⌜ r ≡ goes (now (p .entry)) mask block i ⌝ }
 {
-    (word(p, i + 1) != FREE) & ((i == block) | is_named(mask, word(p, i + 2)))
+    (word(p, i + KIND) != FREE) & ((i == block) | is_named(mask, word(p, i + HOLDER)))
 }
 
 // The block at i is free if it goes.
@@ -57,7 +59,7 @@ pub fn join_block(p: &mut [u32], e: usize, r: usize, i: usize)
     requires { ⌜ (e ≤ greatestSize) × (i < e) ⌝ }
     ensures { λ _. ⌜ now (p .exit) ≡ joined (now (p .entry)) e r i ⌝ }
 {
-    if (word(p, i + 1) == FREE) & (r < i) {
+    if (word(p, i + KIND) == FREE) & (r < i) {
         absorb_block(p, e, r, i);
     }
 }
@@ -67,7 +69,7 @@ pub fn run_start(p: &[u32], e: usize, r: usize, i: usize) -> usize
     requires { ⌜ i < greatestSize ⌝ }
     ensures { λ s. ⌜ s ≡ run (now (p .entry)) e r i ⌝ }
 {
-    if word(p, i + 1) != FREE {
+    if word(p, i + KIND) != FREE {
         return e;
     }
     if r < i {

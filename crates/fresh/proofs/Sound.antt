@@ -9,8 +9,8 @@ use lib.ListN.{length, getD, replicate, length-set, length-replicate, getD-repli
 use lib.Seq.{getD-set-same, getD-set-other}
 use Rattle.words.specs.Words.{word, put}
 use Rattle.words.specs.Each.{In}
-use Rattle.picture.specs.Layout.{nobody, heap-base, heap-word, size-word, last-word, mask-word, positions, width, from, upto, greatest-tag}
-use Rattle.picture.specs.Records.{slot, field, number, owner, base, priority, accumulated, timeout, waited-for, used, ready}
+use Rattle.picture.specs.Layout.{nobody, size-word, last-word, heap-word, mask-word, zero-word, heap-base, positions, width, from, upto, greatest-priority}
+use Rattle.picture.specs.Records.{slot, field, number-field, owner-field, base-field, priority-field, accumulated-field, timeout-field, wait-field, owner, priority, used, ready}
 use Rattle.picture.specs.Numbers.{tag, position, live}
 use Rattle.picture.specs.declared.Table.{Table}
 use Rattle.picture.specs.declared.Table.the-variants.{Jobs, Channels}
@@ -18,7 +18,7 @@ use Rattle.picture.specs.declared.Area.{Area}
 use Rattle.picture.specs.declared.Area.the-variants.{Heap, Transient}
 use Rattle.picture.proofs.Records.{used-below, used-is}
 use Rattle.picture.proofs.Numbers.{is-live}
-use Rattle.blocks.specs.Header.{size, kind, kind-of}
+use Rattle.blocks.specs.Header.{header-width, kind-field, holder-field, start-field, size, kind, kind-of}
 use Rattle.blocks.specs.Walk.{good, next, starts, blocks}
 use Rattle.blocks.proofs.Walk.{Good, good-is, next-good, starts-end, starts-more}
 use Rattle.matching.specs.Match.{first, area-of, claims}
@@ -46,34 +46,41 @@ module _ (n h : ℕ) (g : Sizes n n h) where
   abbrev q : List ℕ
   q = fresh n h
 
+  -- job 0's owner and priority
+  abbrev zero-owner : ℕ
+  zero-owner = slot Jobs 0 + owner-field
+
+  abbrev zero-priority : ℕ
+  zero-priority = slot Jobs 0 + priority-field
+
   -- each longword of a fresh picture
   record At : Type 0 where
-    size : word q 0 ≡ n
-    heap : word q 4 ≡ h
-    mask : word q 5 ≡ 1
-    owner : word q 9 ≡ nobody
-    priority : word q 11 ≡ first-priority
+    size : word q size-word ≡ n
+    heap : word q heap-word ≡ h
+    mask : word q (mask-word Jobs) ≡ 1
+    owner : word q zero-owner ≡ nobody
+    priority : word q zero-priority ≡ first-priority
     heap-block : word q heap-base ≡ h * 4
     transient-block : word q (heap-base + h) ≡ (n - (heap-base + h)) * 4
-    other : (i : ℕ) → (i ≡ 0 → ⊥) → (i ≡ 4 → ⊥) → (i ≡ 5 → ⊥) → (i ≡ 9 → ⊥) → (i ≡ 11 → ⊥) → (i ≡ heap-base → ⊥) → (i ≡ heap-base + h → ⊥) → word q i ≡ 0
+    other : (i : ℕ) → (i ≡ size-word → ⊥) → (i ≡ heap-word → ⊥) → (i ≡ mask-word Jobs → ⊥) → (i ≡ zero-owner → ⊥) → (i ≡ zero-priority → ⊥) → (i ≡ heap-base → ⊥) → (i ≡ heap-base + h → ⊥) → word q i ≡ 0
 
   abbrev p0 : List ℕ
   p0 = replicate n 0
 
   abbrev p1 : List ℕ
-  p1 = put p0 0 n
+  p1 = put p0 size-word n
 
   abbrev p2 : List ℕ
-  p2 = put p1 4 h
+  p2 = put p1 heap-word h
 
   abbrev p3 : List ℕ
-  p3 = put p2 5 1
+  p3 = put p2 (mask-word Jobs) 1
 
   abbrev p4 : List ℕ
-  p4 = put p3 9 nobody
+  p4 = put p3 zero-owner nobody
 
   abbrev p5 : List ℕ
-  p5 = put p4 11 first-priority
+  p5 = put p4 zero-priority first-priority
 
   abbrev p6 : List ℕ
   p6 = put p5 heap-base (h * 4)
@@ -93,22 +100,22 @@ module _ (n h : ℕ) (g : Sizes n n h) where
       let a = g .heap-most in
       let b = g .heap-least in
       let c = g .least in
-      let l1 = long p0 0 n l0 in
-      let l2 = long p1 4 h l1 in
-      let l3 = long p2 5 1 l2 in
-      let l4 = long p3 9 nobody l3 in
-      let l5 = long p4 11 first-priority l4 in
+      let l1 = long p0 size-word n l0 in
+      let l2 = long p1 heap-word h l1 in
+      let l3 = long p2 (mask-word Jobs) 1 l2 in
+      let l4 = long p3 zero-owner nobody l3 in
+      let l5 = long p4 zero-priority first-priority l4 in
       let l6 = long p5 heap-base (h * 4) l5 in
       let skip : (l : List ℕ) (i j v : ℕ) → (j ≡ i → ⊥) → word (put l i v) j ≡ word l j = λ l i j v d. getD-set-other l i j v 0 d in
       record {
-        size = skip p6 (heap-base + h) 0 _ (λ e. omega arith) ∙ skip p5 heap-base 0 _ (λ e. omega arith) ∙ skip p4 11 0 _ (λ e. omega arith) ∙ skip p3 9 0 _ (λ e. omega arith) ∙ skip p2 5 0 _ (λ e. omega arith) ∙ skip p1 4 0 _ (λ e. omega arith) ∙ getD-set-same p0 0 n 0 (omega (arith, l0));
-        heap = skip p6 (heap-base + h) 4 _ (λ e. omega arith) ∙ skip p5 heap-base 4 _ (λ e. omega arith) ∙ skip p4 11 4 _ (λ e. omega arith) ∙ skip p3 9 4 _ (λ e. omega arith) ∙ skip p2 5 4 _ (λ e. omega arith) ∙ getD-set-same p1 4 h 0 (omega arith);
-        mask = skip p6 (heap-base + h) 5 _ (λ e. omega arith) ∙ skip p5 heap-base 5 _ (λ e. omega arith) ∙ skip p4 11 5 _ (λ e. omega arith) ∙ skip p3 9 5 _ (λ e. omega arith) ∙ getD-set-same p2 5 1 0 (omega arith);
-        owner = skip p6 (heap-base + h) 9 _ (λ e. omega arith) ∙ skip p5 heap-base 9 _ (λ e. omega arith) ∙ skip p4 11 9 _ (λ e. omega arith) ∙ getD-set-same p3 9 nobody 0 (omega arith);
-        priority = skip p6 (heap-base + h) 11 _ (λ e. omega arith) ∙ skip p5 heap-base 11 _ (λ e. omega arith) ∙ getD-set-same p4 11 first-priority 0 (omega arith);
+        size = skip p6 (heap-base + h) size-word _ (λ e. omega arith) ∙ skip p5 heap-base size-word _ (λ e. omega arith) ∙ skip p4 zero-priority size-word _ (λ e. omega arith) ∙ skip p3 zero-owner size-word _ (λ e. omega arith) ∙ skip p2 (mask-word Jobs) size-word _ (λ e. omega arith) ∙ skip p1 heap-word size-word _ (λ e. omega arith) ∙ getD-set-same p0 size-word n 0 (omega (arith, l0));
+        heap = skip p6 (heap-base + h) heap-word _ (λ e. omega arith) ∙ skip p5 heap-base heap-word _ (λ e. omega arith) ∙ skip p4 zero-priority heap-word _ (λ e. omega arith) ∙ skip p3 zero-owner heap-word _ (λ e. omega arith) ∙ skip p2 (mask-word Jobs) heap-word _ (λ e. omega arith) ∙ getD-set-same p1 heap-word h 0 (omega arith);
+        mask = skip p6 (heap-base + h) (mask-word Jobs) _ (λ e. omega arith) ∙ skip p5 heap-base (mask-word Jobs) _ (λ e. omega arith) ∙ skip p4 zero-priority (mask-word Jobs) _ (λ e. omega arith) ∙ skip p3 zero-owner (mask-word Jobs) _ (λ e. omega arith) ∙ getD-set-same p2 (mask-word Jobs) 1 0 (omega arith);
+        owner = skip p6 (heap-base + h) zero-owner _ (λ e. omega arith) ∙ skip p5 heap-base zero-owner _ (λ e. omega arith) ∙ skip p4 zero-priority zero-owner _ (λ e. omega arith) ∙ getD-set-same p3 zero-owner nobody 0 (omega arith);
+        priority = skip p6 (heap-base + h) zero-priority _ (λ e. omega arith) ∙ skip p5 heap-base zero-priority _ (λ e. omega arith) ∙ getD-set-same p4 zero-priority first-priority 0 (omega arith);
         heap-block = skip p6 (heap-base + h) heap-base _ (λ e. omega arith) ∙ getD-set-same p5 heap-base (h * 4) 0 (omega arith);
         transient-block = getD-set-same p6 (heap-base + h) ((n - (heap-base + h)) * 4) 0 (omega arith);
-        other = λ i d0 d4 d5 d9 d11 dh dt. skip p6 (heap-base + h) i _ dt ∙ skip p5 heap-base i _ dh ∙ skip p4 11 i _ d11 ∙ skip p3 9 i _ d9 ∙ skip p2 5 i _ d5 ∙ skip p1 4 i _ d4 ∙ skip p0 0 i _ d0 ∙ zeros n i;
+        other = λ i d0 d4 d5 d9 d11 dh dt. skip p6 (heap-base + h) i _ dt ∙ skip p5 heap-base i _ dh ∙ skip p4 zero-priority i _ d11 ∙ skip p3 zero-owner i _ d9 ∙ skip p2 (mask-word Jobs) i _ d5 ∙ skip p1 heap-word i _ d4 ∙ skip p0 size-word i _ d0 ∙ zeros n i;
       }
 
   -- only job 0 is in use, and no channel
@@ -127,7 +134,7 @@ module _ (n h : ℕ) (g : Sizes n n h) where
 
   no-channel : (k : ℕ) → used q Channels k ≡ true → ⊥
   no-channel k u =
-      let z : word q 6 ≡ 0 = let b = g .heap-least in at .other 6 (λ e. omega arith) (λ e. omega arith) (λ e. omega arith) (λ e. omega arith) (λ e. omega arith) (λ e. omega arith) (λ e. omega arith) in
+      let z : word q (mask-word Channels) ≡ 0 = let b = g .heap-least in at .other (mask-word Channels) (λ e. omega arith) (λ e. omega arith) (λ e. omega arith) (λ e. omega arith) (λ e. omega arith) (λ e. omega arith) (λ e. omega arith) in
       let y = rw (z, zero-div (2 ^ k)) at (sym (used-is q Channels k (used-below q Channels k u)) ∙ u) in
       false-true y
 
@@ -135,11 +142,11 @@ module _ (n h : ℕ) (g : Sizes n n h) where
   zero-used = used-is q Jobs 0 (omega arith) ∙ rw (at .mask)
 
   -- the fields of records: job 0's owner and priority, and zeros
-  blank-field : (t : Table) (k f : ℕ) → k < positions t → f < width t → (slot t k + f ≡ 9 → ⊥) → (slot t k + f ≡ 11 → ⊥) → field q t k f ≡ 0
+  blank-field : (t : Table) (k f : ℕ) → k < positions t → f < width t → (slot t k + f ≡ zero-owner → ⊥) → (slot t k + f ≡ zero-priority → ⊥) → field q t k f ≡ 0
   blank-field Jobs k f a b x y = let c = g .heap-least in at .other (slot Jobs k + f) (λ e. omega arith) (λ e. omega arith) (λ e. omega arith) x y (λ e. omega arith) (λ e. omega arith)
   blank-field Channels k f a b x y = let c = g .heap-least in at .other (slot Channels k + f) (λ e. omega arith) (λ e. omega arith) (λ e. omega arith) x y (λ e. omega arith) (λ e. omega arith)
 
-  field-zero : (k f : ℕ) → k < positions Jobs → f < 8 → (f ≡ 1 → ⊥) → (f ≡ 3 → ⊥) → field q Jobs k f ≡ 0
+  field-zero : (k f : ℕ) → k < positions Jobs → f < width Jobs → (f ≡ owner-field → ⊥) → (f ≡ priority-field → ⊥) → field q Jobs k f ≡ 0
   field-zero k f a b x y = blank-field Jobs k f a b (λ e. x (omega arith)) (λ e. y (omega arith))
 
   -- each area is one free block
@@ -163,19 +170,19 @@ module _ (n h : ℕ) (g : Sizes n n h) where
   block-first : (a : Area) (i : ℕ) → In i (blocks q a) → i ≡ from q a
   block-first a i m = let u = upto-is a in ⊎-elim (λ e. e) absurd (rw (single (from q a) (upto q a) (u .0) (u .1) (u .2) (u .3)) at m)
 
-  header-zero : (a : Area) (f : ℕ) → 0 < f → f < 4 → word q (from q a + f) ≡ 0
+  header-zero : (a : Area) (f : ℕ) → 0 < f → f < header-width → word q (from q a + f) ≡ 0
   header-zero Heap f l m = let c = g .heap-least in at .other (heap-base + f) (λ e. omega arith) (λ e. omega arith) (λ e. omega arith) (λ e. omega arith) (λ e. omega arith) (λ e. omega arith) (λ e. omega arith)
   header-zero Transient f l m = let c = g .heap-least in rw (at .heap) (at .other (heap-base + h + f) (λ e. omega arith) (λ e. omega arith) (λ e. omega arith) (λ e. omega arith) (λ e. omega arith) (λ e. omega arith) (λ e. omega arith))
 
   kind-free : (a : Area) (i : ℕ) → In i (blocks q a) → kind q i ≡ 0
-  kind-free a i m = ap (λ (x : ℕ). kind q x) (block-first a i m) ∙ header-zero a 1 (omega arith) (omega arith)
+  kind-free a i m = ap (λ (x : ℕ). kind q x) (block-first a i m) ∙ header-zero a kind-field (omega arith) (omega arith)
 
   tiled : (a : Area) → Tiled q a
   tiled a = record {
     whole = λ i m. let u = upto-is a in let z = u .3 in let l = u .0 in let f = u .1 in let o = u .2 in rw (block-first a i m) (good-is q (from q a) (upto q a) (record { whole = rw z (omega arith); least = rw z (omega arith); within = rw z (omega arith) }));
     fits = λ i m. fits a (kind q i) (kind-free a i m);
-    starts-zero = λ i m. inr (ap (λ (x : ℕ). word q (x + 3)) (block-first a i m) ∙ header-zero a 3 (omega arith) (omega arith));
-    free-zero = λ i m e. (ap (λ (x : ℕ). word q (x + 2)) (block-first a i m) ∙ header-zero a 2 (omega arith) (omega arith), ap (λ (x : ℕ). word q (x + 3)) (block-first a i m) ∙ header-zero a 3 (omega arith) (omega arith));
+    starts-zero = λ i m. inr (ap (λ (x : ℕ). word q (x + start-field)) (block-first a i m) ∙ header-zero a start-field (omega arith) (omega arith));
+    free-zero = λ i m e. (ap (λ (x : ℕ). word q (x + holder-field)) (block-first a i m) ∙ header-zero a holder-field (omega arith) (omega arith), ap (λ (x : ℕ). word q (x + start-field)) (block-first a i m) ∙ header-zero a start-field (omega arith) (omega arith));
     queue = λ i m e. let z = kind-free a i m in absurd (omega arith);
     lone = λ i m e l z. alone i (block-first a i m) l;
     held = λ i m. inl (kind-free a i m);
@@ -219,11 +226,11 @@ module _ (n h : ℕ) (g : Sizes n n h) where
         (λ (o : 0 < k). blank-field Jobs k f l m (λ e. omega arith) (λ e. omega arith))
         (λ (o : k ≤ 0). let z : k ≡ 0 = omega arith in absurd (false-true (sym (subst (λ (x : ℕ). used q Jobs x ≡ false) z u) ∙ zero-used)))
         (lt-or-ge 0 k);
-    place = λ k u. let z = jobs-used k u in rw (z, field-zero 0 0 (omega arith) (omega arith) (λ e. omega arith) (λ e. omega arith));
+    place = λ k u. let z = jobs-used k u in rw (z, field-zero 0 number-field (omega arith) (omega arith) (λ e. omega arith) (λ e. omega arith));
     tagged = λ k c. absurd (nothing-claims Jobs k c);
     once = λ j k u v e. let y = jobs-used j u in let z = jobs-used k v in omega arith;
     owned = λ k u. let z = jobs-used k u in inl (refl, rw z (at .owner));
-    given = λ k u. let z = jobs-used k u in rw (z, field-zero 0 0 (omega arith) (omega arith) (λ e. omega arith) (λ e. omega arith)) (omega arith);
+    given = λ k u. let z = jobs-used k u in rw (z, field-zero 0 number-field (omega arith) (omega arith) (λ e. omega arith) (λ e. omega arith)) (omega arith);
   }
 
   channel-entries : Entries q Channels
@@ -236,9 +243,9 @@ module _ (n h : ℕ) (g : Sizes n n h) where
     given = λ k u. absurd (no-channel k u);
   }
 
-  urgent : (k : ℕ) → k < positions Jobs → priority q k ≤ 127
+  urgent : (k : ℕ) → k < positions Jobs → priority q k ≤ greatest-priority
   urgent k l = ⊎-elim
-      (λ (o : 0 < k). let z = blank-field Jobs k 3 l (omega arith) (λ e. omega arith) (λ e. omega arith) in omega arith)
+      (λ (o : 0 < k). let z = blank-field Jobs k priority-field l (omega arith) (λ e. omega arith) (λ e. omega arith) in omega arith)
       (λ (o : k ≤ 0). let z : k ≡ 0 = omega arith in rw z (let y = at .priority in omega arith))
       (lt-or-ge 0 k)
 
@@ -246,8 +253,8 @@ module _ (n h : ℕ) (g : Sizes n n h) where
   unfolding ready
   fresh-is-sound =
       let z = length-fresh n h in
-      let o : (i : ℕ) → 0 < i → i < 9 → (i ≡ 4 → ⊥) → (i ≡ 5 → ⊥) → word q i ≡ 0 = λ i a b x y. let c = g .heap-least in at .other i (λ e. omega arith) x y (λ e. omega arith) (λ e. omega arith) (λ e. omega arith) (λ e. omega arith) in
-      let f : (k f : ℕ) → k < positions Jobs → f < 8 → (f ≡ 1 → ⊥) → (f ≡ 3 → ⊥) → field q Jobs k f ≡ 0 = field-zero in
+      let o : (i : ℕ) → 0 < i → i < zero-owner → (i ≡ heap-word → ⊥) → (i ≡ mask-word Jobs → ⊥) → word q i ≡ 0 = λ i a b x y. let c = g .heap-least in at .other i (λ e. omega arith) x y (λ e. omega arith) (λ e. omega arith) (λ e. omega arith) (λ e. omega arith) in
+      let f : (k f : ℕ) → k < positions Jobs → f < width Jobs → (f ≡ owner-field → ⊥) → (f ≡ priority-field → ⊥) → field q Jobs k f ≡ 0 = field-zero in
       sound-again q (record {
         sizes = record {
           long = at .size ∙ sym z;
@@ -257,21 +264,21 @@ module _ (n h : ℕ) (g : Sizes n n h) where
           heap-fours = rw (at .heap) (g .heap-fours);
           heap-least = rw (at .heap) (g .heap-least);
           heap-most = rw (at .heap, z) (g .heap-most);
-          nought = o 7 (omega arith) (omega arith) (λ e. omega arith) (λ e. omega arith);
-          last = elim [ Jobs ↦ rw (o 2 (omega arith) (omega arith) (λ e. omega arith) (λ e. omega arith)) (omega arith) | Channels ↦ rw (o 3 (omega arith) (omega arith) (λ e. omega arith) (λ e. omega arith)) (omega arith) ];
+          nought = o zero-word (omega arith) (omega arith) (λ e. omega arith) (λ e. omega arith);
+          last = elim [ Jobs ↦ rw (o (last-word Jobs) (omega arith) (omega arith) (λ e. omega arith) (λ e. omega arith)) (omega arith) | Channels ↦ rw (o (last-word Channels) (omega arith) (omega arith) (λ e. omega arith) (λ e. omega arith)) (omega arith) ];
         };
         jobs = record {
           entries = job-entries;
           zero-lives = zero-used;
-          zero-number = f 0 0 (omega arith) (omega arith) (λ e. omega arith) (λ e. omega arith);
-          zero-base = f 0 2 (omega arith) (omega arith) (λ e. omega arith) (λ e. omega arith);
+          zero-number = f 0 number-field (omega arith) (omega arith) (λ e. omega arith) (λ e. omega arith);
+          zero-base = f 0 base-field (omega arith) (omega arith) (λ e. omega arith) (λ e. omega arith);
           zero-unowned = at .owner;
           urgent = urgent;
-          gained = λ k l. rw (f k 4 l (omega arith) (λ e. omega arith) (λ e. omega arith)) (omega arith);
-          frames = λ k l. inl (rw (f k 5 l (omega arith) (λ e. omega arith) (λ e. omega arith)) (omega arith));
+          gained = λ k l. rw (f k accumulated-field l (omega arith) (λ e. omega arith) (λ e. omega arith)) (omega arith);
+          frames = λ k l. inl (rw (f k timeout-field l (omega arith) (λ e. omega arith) (λ e. omega arith)) (omega arith));
           older = λ k u. inl (rw (jobs-used k u) (at .owner));
-          waits = λ k l. inl (f k 6 l (omega arith) (λ e. omega arith) (λ e. omega arith));
-          idle = λ k l. inl (f k 4 l (omega arith) (λ e. omega arith) (λ e. omega arith));
+          waits = λ k l. inl (f k wait-field l (omega arith) (λ e. omega arith) (λ e. omega arith));
+          idle = λ k l. inl (f k accumulated-field l (omega arith) (λ e. omega arith) (λ e. omega arith));
         };
         channels = record { entries = channel-entries; one = λ k u. absurd (no-channel k u) };
         tiled = tiled;
@@ -283,4 +290,4 @@ module _ (n h : ℕ) (g : Sizes n n h) where
       current =
           let c = g .heap-least in
           let z : word q 1 ≡ 0 = at .other 1 (λ e. omega arith) (λ e. omega arith) (λ e. omega arith) (λ e. omega arith) (λ e. omega arith) (λ e. omega arith) (λ e. omega arith) in
-          rw z (is-live q Jobs 0 (record { used = zero-used; names = field-zero 0 0 (omega arith) (omega arith) (λ e. omega arith) (λ e. omega arith) }), rw (at .priority, field-zero 0 5 (omega arith) (omega arith) (λ e. omega arith) (λ e. omega arith)))
+          rw z (is-live q Jobs 0 (record { used = zero-used; names = field-zero 0 number-field (omega arith) (omega arith) (λ e. omega arith) (λ e. omega arith) }), rw (at .priority, field-zero 0 timeout-field (omega arith) (omega arith) (λ e. omega arith) (λ e. omega arith)))

@@ -7,7 +7,7 @@ use lib.IntN.{ℤ}
 use lib.Dec.{eqb}
 use Rattle.words.specs.Words.{put}
 use Rattle.picture.specs.Layout.{nobody, size-word, heap-word, mask-word, heap-base}
-use Rattle.picture.specs.Records.{slot}
+use Rattle.picture.specs.Records.{slot, owner-field, priority-field}
 use Rattle.picture.specs.Keys.{done, out-of-range}
 use Rattle.picture.specs.declared.Table.the-variants.{Jobs}
 use Rattle.sound.specs.Whole.{size-good, heap-good}
@@ -23,8 +23,8 @@ fresh n h =
     size-word n)
     heap-word h)
     (mask-word Jobs) 1)
-    (slot Jobs 0 + 1) nobody)
-    (slot Jobs 0 + 3) first-priority)
+    (slot Jobs 0 + owner-field) nobody)
+    (slot Jobs 0 + priority-field) first-priority)
     heap-base (h * 4))
     (heap-base + h) ((n - (heap-base + h)) * 4)
 

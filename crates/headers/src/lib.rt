@@ -1,4 +1,7 @@
 // Writing the header of a block.
+use blocks::HOLDER;
+use blocks::KIND;
+use blocks::START;
 use words::put;
 ghost use mathlib.Core.Path.{_≡_};
 ghost use Rattle.headers.specs.Header.{header};
@@ -9,8 +12,8 @@ pub fn put_header(p: &mut [u32], i: usize, length: u32, kind: u32, owner: u32, s
 {
     if i < p.len() {
         put(p, i, length);
-        put(p, i + 1, kind);
-        put(p, i + 2, owner);
-        put(p, i + 3, start);
+        put(p, i + KIND, kind);
+        put(p, i + HOLDER, owner);
+        put(p, i + START, start);
     }
 }

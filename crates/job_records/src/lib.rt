@@ -13,7 +13,7 @@ ghost use Prim.Native.Nat.{_<_, _≤_};
 ghost use lib.Dec.{eqb};
 ghost use lib.ListN.{length};
 ghost use Rattle.words.specs.Each.{every};
-ghost use Rattle.picture.specs.Layout.{heap-base as heapBase};
+ghost use Rattle.picture.specs.Layout.{positions, width, heap-base as heapBase};
 ghost use Rattle.picture.specs.Records.{field, used};
 ghost use Rattle.picture.specs.declared.Table.the-variants.{Jobs};
 ghost use Rattle.records.specs.Rules.{zero-base as zeroBase, priority-within as priorityWithin, accumulated-within as accumulatedWithin, timeout-within as timeoutWithin};
@@ -21,7 +21,7 @@ ghost use Rattle.records.specs.Rules.{zero-exists as zeroExists, owner-older as
 
 // Job 0 has block base 0.
 pub fn zero_base(p: &[u32], k: usize) -> bool
-    requires { ⌜ (heapBase ≤ length (now p)) × (k < 32) ⌝ }
+    requires { ⌜ (heapBase ≤ length (now p)) × (k < positions Jobs) ⌝ }
     ensures { λ r. ⌜ r ≡ zeroBase (now (p .entry)) k ⌝ }
 {
     (k != 0) | (field_of(p, Table::Jobs, k, picture::BASE) == 0)
@@ -29,7 +29,7 @@ pub fn zero_base(p: &[u32], k: usize) -> bool
 
 // Priority 0 to 127.
 pub fn priority_within(p: &[u32], k: usize) -> bool
-    requires { ⌜ (heapBase ≤ length (now p)) × (k < 32) ⌝ }
+    requires { ⌜ (heapBase ≤ length (now p)) × (k < positions Jobs) ⌝ }
     ensures { λ r. ⌜ r ≡ priorityWithin (now (p .entry)) k ⌝ }
 {
     field_of(p, Table::Jobs, k, picture::PRIORITY) <= GREATEST_PRIORITY
@@ -37,7 +37,7 @@ pub fn priority_within(p: &[u32], k: usize) -> bool
 
 // Accumulated 0 to 8,191.
 pub fn accumulated_within(p: &[u32], k: usize) -> bool
-    requires { ⌜ (heapBase ≤ length (now p)) × (k < 32) ⌝ }
+    requires { ⌜ (heapBase ≤ length (now p)) × (k < positions Jobs) ⌝ }
     ensures { λ r. ⌜ r ≡ accumulatedWithin (now (p .entry)) k ⌝ }
 {
     field_of(p, Table::Jobs, k, picture::ACCUMULATED) <= HOLD
@@ -45,7 +45,7 @@ pub fn accumulated_within(p: &[u32], k: usize) -> bool
 
 // Timeout 0 to 32,767, or -1.
 pub fn timeout_within(p: &[u32], k: usize) -> bool
-    requires { ⌜ (heapBase ≤ length (now p)) × (k < 32) ⌝ }
+    requires { ⌜ (heapBase ≤ length (now p)) × (k < positions Jobs) ⌝ }
     ensures { λ r. ⌜ r ≡ timeoutWithin (now (p .entry)) k ⌝ }
 {
     let timeout = field_of(p, Table::Jobs, k, picture::TIMEOUT);
@@ -54,8 +54,8 @@ pub fn timeout_within(p: &[u32], k: usize) -> bool
 
 // Every field of a job's record is zero.
 pub fn is_job_zero(p: &[u32], k: usize) -> bool
-    requires { ⌜ (heapBase ≤ length (now p)) × (k < 32) ⌝ }
-    ensures { λ r. ⌜ r ≡ every (λ f. eqb (field (now (p .entry)) Jobs k f) 0) 8 ⌝ }
+    requires { ⌜ (heapBase ≤ length (now p)) × (k < positions Jobs) ⌝ }
+    ensures { λ r. ⌜ r ≡ every (λ f. eqb (field (now (p .entry)) Jobs k f) 0) (width Jobs) ⌝ }
 {
     (field_of(p, Table::Jobs, k, picture::NUMBER) == 0)
         & (field_of(p, Table::Jobs, k, picture::OWNER) == 0)
@@ -63,13 +63,13 @@ pub fn is_job_zero(p: &[u32], k: usize) -> bool
         & (field_of(p, Table::Jobs, k, picture::PRIORITY) == 0)
         & (field_of(p, Table::Jobs, k, picture::ACCUMULATED) == 0)
         & (field_of(p, Table::Jobs, k, picture::TIMEOUT) == 0)
-        & (field_of(p, Table::Jobs, k, picture::WAITED_FOR) == 0)
-        & (field_of(p, Table::Jobs, k, picture::DELIVERED) == 0)
+        & (field_of(p, Table::Jobs, k, picture::WAIT) == 0)
+        & (field_of(p, Table::Jobs, k, picture::KEY) == 0)
 }
 
 // Job 0, in use, has number 0.
 pub fn zero_exists(p: &[u32], k: usize) -> bool
-    requires { ⌜ (heapBase ≤ length (now p)) × ((k < 32) × (used (now p) Jobs k ≡ true)) ⌝ }
+    requires { ⌜ (heapBase ≤ length (now p)) × ((k < positions Jobs) × (used (now p) Jobs k ≡ true)) ⌝ }
     ensures { λ r. ⌜ r ≡ zeroExists (now (p .entry)) k ⌝ }
 {
     (k != 0) | (field_of(p, Table::Jobs, k, picture::NUMBER) == 0)
@@ -77,16 +77,16 @@ pub fn zero_exists(p: &[u32], k: usize) -> bool
 
 // The owner of a job in use has a smaller tag.
 pub fn owner_older(p: &[u32], k: usize) -> bool
-    requires { ⌜ (heapBase ≤ length (now p)) × ((k < 32) × (used (now p) Jobs k ≡ true)) ⌝ }
+    requires { ⌜ (heapBase ≤ length (now p)) × ((k < positions Jobs) × (used (now p) Jobs k ≡ true)) ⌝ }
     ensures { λ r. ⌜ r ≡ ownerOlder (now (p .entry)) k ⌝ }
 {
     let owner = field_of(p, Table::Jobs, k, picture::OWNER);
-    (owner == NOBODY) | (owner / 65536 < tag_at(p, Table::Jobs, k))
+    (owner == NOBODY) | (picture::tag_of(owner) < tag_at(p, Table::Jobs, k))
 }
 
 // Job 0 is unowned.
 pub fn zero_unowned(p: &[u32], k: usize) -> bool
-    requires { ⌜ (heapBase ≤ length (now p)) × (k < 32) ⌝ }
+    requires { ⌜ (heapBase ≤ length (now p)) × (k < positions Jobs) ⌝ }
     ensures { λ r. ⌜ r ≡ zeroUnowned (now (p .entry)) k ⌝ }
 {
     (k != 0) | (field_of(p, Table::Jobs, k, picture::OWNER) == NOBODY)
@@ -94,10 +94,10 @@ pub fn zero_unowned(p: &[u32], k: usize) -> bool
 
 // A job waits for a live job other than 0 or itself, with timeout -1.
 pub fn waits_well(p: &[u32], k: usize) -> bool
-    requires { ⌜ (heapBase ≤ length (now p)) × (k < 32) ⌝ }
+    requires { ⌜ (heapBase ≤ length (now p)) × (k < positions Jobs) ⌝ }
     ensures { λ r. ⌜ r ≡ waitsWell (now (p .entry)) k ⌝ }
 {
-    let waited = field_of(p, Table::Jobs, k, picture::WAITED_FOR);
+    let waited = field_of(p, Table::Jobs, k, picture::WAIT);
     if waited == 0 {
         return true;
     }
@@ -108,7 +108,7 @@ pub fn waits_well(p: &[u32], k: usize) -> bool
 
 // Accumulated is 0 unless ready.
 pub fn idle_zero(p: &[u32], k: usize) -> bool
-    requires { ⌜ (heapBase ≤ length (now p)) × (k < 32) ⌝ }
+    requires { ⌜ (heapBase ≤ length (now p)) × (k < positions Jobs) ⌝ }
     ensures { λ r. ⌜ r ≡ idleZero (now (p .entry)) k ⌝ }
 {
     if field_of(p, Table::Jobs, k, picture::ACCUMULATED) == 0 {

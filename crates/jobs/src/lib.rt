@@ -69,7 +69,7 @@ pub fn activate(p: &mut [u32], d: &mut [u32]) -> i32
     if !effects::is_wait_good(t, number.0) {
         return picture::BAD_PARAMETER;
     }
-    let c = (calls::caller_of(p) % 65536) as usize;
+    let c = (calls::caller_of(p) % picture::TAG_WEIGHT) as usize;
     effects::put_priority(p, k, priority);
     effects::put_wait(p, t, c, number.0);
     calls::put_nobody(p);

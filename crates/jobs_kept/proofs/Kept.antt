@@ -12,7 +12,7 @@ use borrow.Author.Tests.{leb-true}
 use Rattle.words.specs.Words.{word}
 use Rattle.words.proofs.Tests.{both, false-true}
 use Rattle.picture.specs.Layout.{nobody, current-word, positions, width, greatest-size}
-use Rattle.picture.specs.Records.{slot, field, number, priority, timeout, used, ready, active}
+use Rattle.picture.specs.Records.{slot, field, number, priority, timeout, used, ready, active, accumulated-field, number-field, priority-field, timeout-field, wait-field, with-accumulated, with-field, with-timeout, with-wait}
 use Rattle.picture.specs.Numbers.{position, live}
 use Rattle.picture.specs.declared.Table.{Table}
 use Rattle.picture.specs.declared.Table.the-variants.{Jobs}
@@ -29,7 +29,7 @@ use Rattle.timeouts.proofs.Cases.{longword-within}
 use Rattle.calls.specs.Outcome.{Outcome}
 use Rattle.calls.specs.Call.{outcome}
 use Rattle.calls.specs.Registers.{D2, D3, caller}
-use Rattle.calls.specs.Writes.{with-field, with-nobody}
+use Rattle.calls.specs.Writes.{with-nobody}
 use Rattle.steady.proofs.Steady.{Steady, Alike, steady-ages, steady-live, steady-used, steady-then}
 use Rattle.steady.proofs.Writes.{Written, steady-current, written-sound, written-nobody-sound, nobody-sound}
 use Rattle.effects.specs.Effects.{suspended, released, low-byte, prioritized, may-wait, endless, waiting}
@@ -115,7 +115,7 @@ module _ (p : List ℕ) (S : Sound p) (n v : ℕ) (lives : live p Jobs n ≡ tru
 
   still-ready : ready p c ≡ true → ready q c ≡ true
   unfolding ready
-  still-ready r = let a = changed .others c (two r) in rw (a 3 (omega arith), a 5 (omega arith)) r
+  still-ready r = let a = changed .others c (two r) in rw (a priority-field (omega arith), a timeout-field (omega arith)) r
 
   still-current : Current p → Current q
   still-current (inl e) = inl (prioritized-current p S k k-used v ∙ e)
@@ -132,12 +132,12 @@ module _ (p : List ℕ) (S : Sound p) (n v : ℕ) (lives : live p Jobs n ≡ tru
   past-end x f w l e = let z : position (caller p) ≡ 65535 = rw e refl in set-out x (slot Jobs c + f) w (omega arith)
 
   abbrev c3 : List ℕ
-  c3 = with-field (with-field (with-field q Jobs c 5 nobody) Jobs c 4 0) Jobs c 6 n
+  c3 = with-wait (with-accumulated (with-timeout q c nobody) c 0) c n
 
   nowhere : caller p ≡ nobody → c3 ≡ q
   nowhere e =
       let l : length q ≤ greatest-size = rw (changed .steady .long) (S .sizes .most) in
-      rw (past-end q 5 nobody l e, past-end q 4 0 l e, past-end q 6 n l e)
+      rw (past-end q timeout-field nobody l e, past-end q accumulated-field 0 l e, past-end q wait-field n l e)
 
   -- the caller waits for the job named, which is another live one
   module _ (l : v ≤ greatest-priority) (cl : live p Jobs (caller p) ≡ true) (cr : ready p c ≡ true) where
@@ -147,7 +147,7 @@ module _ (p : List ℕ) (S : Sound p) (n v : ℕ) (lives : live p Jobs n ≡ tru
     other : n ≡ number q Jobs c → ⊥
     other e =
         let b = live-is p Jobs (caller p) cl in
-        two cr (ap position (sym (b .names) ∙ sym (changed .others c (two cr) 0 (omega arith)) ∙ sym e))
+        two cr (ap position (sym (b .names) ∙ sym (changed .others c (two cr) number-field (omega arith)) ∙ sym e))
 
     waiting-sound : Sound (with-nobody c3)
     waiting-sound = written-nobody-sound q c3 c (raised l) (awaiting-written q (raised l) c c-used n)

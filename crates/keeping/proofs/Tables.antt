@@ -8,11 +8,11 @@ use native.Mathlib.Omega.{arith}
 use lib.ListN.{length}
 use Rattle.words.specs.Words.{word}
 use Rattle.picture.specs.Layout.{size-word, current-word, last-word, heap-word, zero-word, heap-base, mask-word, positions, width}
-use Rattle.picture.specs.Records.{slot, field, number, owner, base, waited-for, used, ready}
+use Rattle.picture.specs.Records.{slot, field, number, owner, base, waited-for, used, ready, accumulated-field, base-field, number-field, owner-field, priority-field, timeout-field, wait-field, ending-field}
 use Rattle.picture.specs.Numbers.{position, live}
 use Rattle.picture.specs.declared.Table.{Table}
 use Rattle.picture.specs.declared.Table.the-variants.{Jobs, Channels}
-use Rattle.picture.proofs.Records.{slot-within, used-below}
+use Rattle.picture.proofs.Records.{slot-within, used-below, shared}
 use Rattle.picture.proofs.Numbers.{Live, live-is}
 use Rattle.facts.proofs.Sound.{Sizes, Waits, Owned, Entries, Jobs-fine, Channels-fine, Current, Sound}
 use Rattle.facts.proofs.Same.{used-same, live-same, Lives, EntriesSame, entries-same}
@@ -28,25 +28,21 @@ module _ (p q : List ℕ) (s : TablesSame p q) where
   field-same t k f l m = let h = slot-within t k l in s .words (slot t k + f) (omega arith)
 
   pub mask-same : (t : Table) → word q (mask-word t) ≡ word p (mask-word t)
-  mask-same Jobs = s .words 5 (omega arith)
-  mask-same Channels = s .words 6 (omega arith)
+  mask-same Jobs = s .words (mask-word Jobs) (omega arith)
+  mask-same Channels = s .words (mask-word Channels) (omega arith)
 
   pub last-same : (t : Table) → word q (last-word t) ≡ word p (last-word t)
-  last-same Jobs = s .words 2 (omega arith)
-  last-same Channels = s .words 3 (omega arith)
-
-  three : (t : Table) → 3 < width t
-  three Jobs = omega arith
-  three Channels = omega arith
+  last-same Jobs = s .words (last-word Jobs) (omega arith)
+  last-same Channels = s .words (last-word Channels) (omega arith)
 
   pub number-same : (t : Table) (k : ℕ) → k < positions t → number q t k ≡ number p t k
-  number-same t k l = let w = three t in field-same t k 0 l (omega arith)
+  number-same t k l = field-same t k number-field l (shared t number-field (omega arith))
 
   pub owner-same : (t : Table) (k : ℕ) → k < positions t → owner q t k ≡ owner p t k
-  owner-same t k l = let w = three t in field-same t k 1 l (omega arith)
+  owner-same t k l = field-same t k owner-field l (shared t owner-field (omega arith))
 
   pub base-same : (t : Table) (k : ℕ) → k < positions t → base q t k ≡ base p t k
-  base-same t k l = let w = three t in field-same t k 2 l (omega arith)
+  base-same t k l = field-same t k base-field l (shared t base-field (omega arith))
 
   pub lives-same : (t : Table) (n : ℕ) → live q t n ≡ live p t n
   lives-same t n = live-same p q t (mask-same t) (number-same t) n
@@ -81,37 +77,37 @@ module _ (p q : List ℕ) (s : TablesSame p q) where
 
   ready-same : (k : ℕ) → k < positions Jobs → ready q k ≡ ready p k
   unfolding ready
-  ready-same k l = rw (field-same Jobs k 3 l (omega arith), field-same Jobs k 5 l (omega arith))
+  ready-same k l = rw (field-same Jobs k priority-field l (omega arith), field-same Jobs k timeout-field l (omega arith))
 
   pub jobs-same : Jobs-fine p → Jobs-fine q
   jobs-same J =
-      let F : (k f : ℕ) → k < positions Jobs → f < 8 → field q Jobs k f ≡ field p Jobs k f = λ k f l m. field-same Jobs k f l m in
+      let F : (k f : ℕ) → k < positions Jobs → f < width Jobs → field q Jobs k f ≡ field p Jobs k f = λ k f l m. field-same Jobs k f l m in
       let u : (k : ℕ) → used q Jobs k ≡ true → used p Jobs k ≡ true = λ k h. sym (used-same p q Jobs (mask-same Jobs) k) ∙ h in
       record {
         entries = table-same Jobs (J .entries);
         zero-lives = used-same p q Jobs (mask-same Jobs) 0 ∙ J .zero-lives;
-        zero-number = F 0 0 (omega arith) (omega arith) ∙ J .zero-number;
-        zero-base = F 0 2 (omega arith) (omega arith) ∙ J .zero-base;
-        zero-unowned = F 0 1 (omega arith) (omega arith) ∙ J .zero-unowned;
-        urgent = λ k l. rw (F k 3 l (omega arith)) (J .urgent k l);
-        gained = λ k l. rw (F k 4 l (omega arith)) (J .gained k l);
-        frames = λ k l. rw (F k 5 l (omega arith)) (J .frames k l);
-        older = λ k h. let l = used-below q Jobs k h in rw (F k 1 l (omega arith), F k 0 l (omega arith)) (J .older k (u k h));
+        zero-number = F 0 number-field (omega arith) (omega arith) ∙ J .zero-number;
+        zero-base = F 0 base-field (omega arith) (omega arith) ∙ J .zero-base;
+        zero-unowned = F 0 owner-field (omega arith) (omega arith) ∙ J .zero-unowned;
+        urgent = λ k l. rw (F k priority-field l (omega arith)) (J .urgent k l);
+        gained = λ k l. rw (F k accumulated-field l (omega arith)) (J .gained k l);
+        frames = λ k l. rw (F k timeout-field l (omega arith)) (J .frames k l);
+        older = λ k h. let l = used-below q Jobs k h in rw (F k owner-field l (omega arith), F k number-field l (omega arith)) (J .older k (u k h));
         waits = λ k l. ⊎-elim
-            (λ (e : waited-for p k ≡ 0). inl (F k 6 l (omega arith) ∙ e))
+            (λ (e : waited-for p k ≡ 0). inl (F k wait-field l (omega arith) ∙ e))
             (λ (w : Waits p k). inr (record {
-              alive = rw (F k 6 l (omega arith)) (lives-on (waited-for p k) (w .alive));
-              other = λ e. w .other (sym (F k 6 l (omega arith)) ∙ e ∙ F k 0 l (omega arith));
-              forever = F k 5 l (omega arith) ∙ w .forever;
+              alive = rw (F k wait-field l (omega arith)) (lives-on (waited-for p k) (w .alive));
+              other = λ e. w .other (sym (F k wait-field l (omega arith)) ∙ e ∙ F k number-field l (omega arith));
+              forever = F k timeout-field l (omega arith) ∙ w .forever;
             }))
             (J .waits k l);
-        idle = λ k l. rw (F k 4 l (omega arith), ready-same k l) (J .idle k l);
+        idle = λ k l. rw (F k accumulated-field l (omega arith), ready-same k l) (J .idle k l);
       }
 
   pub channels-same : Channels-fine p → Channels-fine q
   channels-same C = record {
     entries = table-same Channels (C .entries);
-    one = λ k h. field-same Channels k 3 (used-below q Channels k h) (omega arith) ∙ C .one k (sym (used-same p q Channels (mask-same Channels) k) ∙ h);
+    one = λ k h. field-same Channels k ending-field (used-below q Channels k h) (omega arith) ∙ C .one k (sym (used-same p q Channels (mask-same Channels) k) ∙ h);
   }
 
   pub current-same : Current p → Current q

@@ -6,6 +6,7 @@ ghost use Prim.Native.Nat.{_+_, _≤_, _<_};
 ghost use lib.ListN.{length};
 ghost use Rattle.words.specs.Each.{one};
 ghost use Rattle.picture.specs.Layout.{positions, heap-base as heapBase};
+ghost use Rattle.blocks.specs.Header.{holder-field as holderField};
 ghost use Rattle.matching.specs.Match.{first};
 ghost use Rattle.matching.specs.Met.{meets, met, noticed};
 
@@ -37,18 +38,18 @@ pub fn one_of(b: bool) -> usize
 
 // The block at i and the record of position k agree: base and owner.
 pub fn is_meeting(p: &[u32], t: Table, k: usize, i: usize) -> bool
-    requires { ⌜ (heapBase ≤ length (now p)) × ((k < positions t) × ((i + 2 < length (now p)) × (i < 8589934592))) ⌝ }
+    requires { ⌜ (heapBase ≤ length (now p)) × ((k < positions t) × ((i + holderField < length (now p)) × (i < 8589934592))) ⌝ }
     ensures { λ r. ⌜ r ≡ meets (now (p .entry)) t k i ⌝ }
 {
     if field_of(p, t, k, picture::BASE) as usize != 4 * i {
         return false;
     }
-    field_of(p, t, k, picture::OWNER) == tables::word_at(p, i + 2)
+    field_of(p, t, k, picture::OWNER) == tables::word_at(p, i + blocks::HOLDER)
 }
 
 // The block at i agrees with some record of the table, which is looked for among all.
 pub fn is_met(p: &[u32], t: Table, i: usize) -> bool
-    requires { ⌜ (heapBase ≤ length (now p)) × ((i + 2 < length (now p)) × (i < 8589934592)) ⌝ }
+    requires { ⌜ (heapBase ≤ length (now p)) × ((i + holderField < length (now p)) × (i < 8589934592)) ⌝ }
     ensures { λ r. ⌜ r ≡ met (now (p .entry)) t i ⌝ }
 {
     let n = picture::positions_of(t);
@@ -71,7 +72,7 @@ fn wide(position: u8) -> usize
 
 // The block at i agrees with the record at the position noted for its place.
 pub fn is_noticed(p: &[u32], t: Table, i: usize, noted: &[u8; 64]) -> bool
-    requires { ⌜ (heapBase ≤ length (now p)) × ((i + 2 < length (now p)) × (i < 8589934592)) ⌝ }
+    requires { ⌜ (heapBase ≤ length (now p)) × ((i + holderField < length (now p)) × (i < 8589934592)) ⌝ }
     ensures { λ r. ⌜ r ≡ noticed (now (p .entry)) t i (now (noted .entry)) ⌝ }
 {
     let k = wide(noted[i / 4 % 64]);

@@ -91,7 +91,7 @@ pub fn is_plain_at(p: &[u32], a: u32, i: usize) -> bool
     requires { ⌜ i < 8589934592 ⌝ }
     ensures { λ r. ⌜ r ≡ plainRoom (now (p .entry)) a i ⌝ }
 {
-    (word(p, i + 1) == blocks::PLAIN) & (4 * i + 16 == a as usize)
+    (word(p, i + blocks::KIND) == blocks::PLAIN) & (4 * i + 16 == a as usize)
 }
 
 // A plain block of the heap has its first byte of room at the byte offset a.

@@ -1,14 +1,13 @@
 -- What opening a channel does to the picture and the registers.
 use Prim.Native.Nat.{ℕ, _+_}
 use mathlib.Core.List.{List}
-use Rattle.words.specs.Words.{put}
+use Rattle.picture.specs.Records.{with-ending}
 use Rattle.picture.specs.Numbers.{free-position}
 use Rattle.picture.specs.declared.Table.the-variants.{Channels}
 use Rattle.picture.specs.declared.Area.the-variants.{Heap}
-use Rattle.blocks.specs.Header.{queue-kind, rounded}
+use Rattle.blocks.specs.Header.{queue-kind, with-queue-length, rounded}
 use Rattle.placing.specs.Place.{placed}
 use Rattle.calls.specs.Registers.{with-D1, with-A0}
-use Rattle.calls.specs.Writes.{with-field}
 use Rattle.rooms.specs.Room.{spot, header-byte}
 use Rattle.entering.specs.Entry.{next-tag, entered}
 
@@ -18,11 +17,11 @@ queue-bytes n = rounded (32 + n)
 
 -- an empty queue of length n, owned by o, placed at i: "length n, index of the oldest byte, count, 0", all but n 0
 unfoldable pub queued : List ℕ → ℕ → ℕ → ℕ → List ℕ
-queued p i o n = put (placed p i (queue-bytes n) queue-kind o 0) (i + 4) n
+queued p i o n = with-queue-length (placed p i (queue-bytes n) queue-kind o 0) i n
 
 -- the entry with tag g at position k, of owner o, for the queue at i: "Channel record: number, owner, block base, 1"
 unfoldable pub channelled : List ℕ → ℕ → ℕ → ℕ → ℕ → List ℕ
-channelled p k g o i = with-field (entered p Channels k g o (header-byte i)) Channels k 3 1
+channelled p k g o i = with-ending (entered p Channels k g o (header-byte i)) k 1
 
 -- a channel of owner o with a queue of length n
 unfoldable pub opened : List ℕ → ℕ → ℕ → List ℕ

@@ -8,7 +8,8 @@ use words::word;
 ghost use mathlib.Core.Path.{_≡_};
 ghost use mathlib.Core.Bool.{true};
 ghost use Prim.Native.Nat.{_<_, _≤_};
-ghost use Rattle.picture.specs.Layout.{greatest-tag as greatestTag, greatest-size as greatestSize};
+ghost use Rattle.picture.specs.Layout.{positions, greatest-tag as greatestTag, greatest-size as greatestSize};
+ghost use Rattle.picture.specs.declared.Table.the-variants.{Channels};
 ghost use Rattle.sound.specs.Sound.{sound};
 ghost use Rattle.calls.specs.Outcome.{Meets};
 ghost use Rattle.calls.specs.Call.{outcome};
@@ -17,7 +18,7 @@ ghost use Rattle.opening.specs.Calls.{open-channel as openChannel};
 
 // The entry with this tag at position k, of this owner, for the queue at i, is in the table.
 pub fn enter_channel(p: &mut [u32], k: usize, tag: u32, owner: u32, i: usize)
-    requires { ⌜ ((k < 32) × (tag ≤ greatestTag)) × (i < greatestSize) ⌝ }
+    requires { ⌜ ((k < positions Channels) × (tag ≤ greatestTag)) × (i < greatestSize) ⌝ }
     ensures { λ _. ⌜ now (p .exit) ≡ channelled (now (p .entry)) k tag owner i ⌝ }
 {
     entering::enter(p, Table::Channels, k, tag, owner, rooms::header_byte(i));
@@ -59,7 +60,7 @@ pub fn open_channel(p: &mut [u32], d: &mut [u32], name: &[u8]) -> i32
     let Placement::At(i) = rooms::place_in(p, Area::Heap, bytes, blocks::QUEUE, owner, 0) else {
         return picture::OUT_OF_MEMORY;
     };
-    put(p, i + queues::LENGTH, n);
+    put(p, i + blocks::QUEUE_LENGTH, n);
     enter_channel(p, k, last + 1, owner, i);
     answer_channel(d, owner, picture::number_of(last + 1, k));
     picture::DONE

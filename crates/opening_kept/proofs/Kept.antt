@@ -10,8 +10,8 @@ use borrow.Author.Tests.{le-leb, eqb-true}
 use Rattle.words.specs.Words.{word}
 use Rattle.words.specs.Each.{In}
 use Rattle.words.proofs.Tests.{both, false-true}
-use Rattle.picture.specs.Layout.{heap-word, size-word, zero-word, last-word, mask-word, positions, width}
-use Rattle.picture.specs.Records.{slot, field, number, owner, base, ending, used}
+use Rattle.picture.specs.Layout.{heap-word, size-word, zero-word, last-word, mask-word, positions, width, first-record}
+use Rattle.picture.specs.Records.{slot, field, number, owner, base, ending, used, base-field, owner-field, ending-field, number-field}
 use Rattle.picture.specs.Numbers.{live}
 use Rattle.picture.specs.declared.Table.{Table}
 use Rattle.picture.specs.declared.Table.the-variants.{Jobs, Channels}
@@ -83,7 +83,7 @@ module _ (p : List ℕ) (o n : ℕ) (h : sound p ≡ true) (fp : has-position p 
   lives = jobs-live p q J
 
   -- from the entry to its last longword
-  step : (j : ℕ) → (j ≡ slot Channels k + 3 → ⊥) → word q j ≡ word e j
+  step : (j : ℕ) → (j ≡ slot Channels k + ending-field → ⊥) → word q j ≡ word e j
   step = the.q-other p o n h fp tg rm
 
   mask-step : word q (mask-word Channels) ≡ word e (mask-word Channels)
@@ -92,10 +92,10 @@ module _ (p : List ℕ) (o n : ℕ) (h : sound p ≡ true) (fp : has-position p 
   last-step : word q (last-word Channels) ≡ word e (last-word Channels)
   last-step = step (last-word Channels) (λ x. omega arith)
 
-  field-step : (j f : ℕ) → f < 3 → field q Channels j f ≡ field e Channels j f
+  field-step : (j f : ℕ) → f ≤ base-field → field q Channels j f ≡ field e Channels j f
   field-step j f l = step (slot Channels j + f) (λ x. omega arith)
 
-  field-else : (j f : ℕ) → f < 4 → (j ≡ k → ⊥) → field q Channels j f ≡ field e Channels j f
+  field-else : (j f : ℕ) → f < width Channels → (j ≡ k → ⊥) → field q Channels j f ≡ field e Channels j f
   field-else j f l m = step (slot Channels j + f) (λ x. m (omega arith))
 
   used-step : (j : ℕ) → used q Channels j ≡ used e Channels j
@@ -109,14 +109,14 @@ module _ (p : List ℕ) (o n : ℕ) (h : sound p ≡ true) (fp : has-position p 
   e-entries = entering-keeps-the-records p e Channels k g o (header-byte at) E there vacant (omega arith) (S .channels .entries) (the.tag-left p o n h fp tg rm) (inr (e-lives o lives-owner))
 
   lives-step : Lives e q
-  lives-step m x = live-same e q Jobs (step (mask-word Jobs) (λ y. omega arith)) (λ j l. step (slot Jobs j + 0) (λ y. omega arith)) m ∙ x
+  lives-step m x = live-same e q Jobs (step (mask-word Jobs) (λ y. omega arith)) (λ j l. step (slot Jobs j + number-field) (λ y. omega arith)) m ∙ x
 
   used-new : used q Channels k ≡ true
   used-new = used-step k ∙ used-here p e Channels k g o (header-byte at) E there vacant
 
   entries : Entries q Channels
   entries = entries-same e q Channels
-      (record { mask = mask-step; last = last-step; numbers = λ j l. field-step j 0 (omega arith); owners = λ j l. field-step j 1 (omega arith) })
+      (record { mask = mask-step; last = last-step; numbers = λ j l. field-step j number-field (omega arith); owners = λ j l. field-step j owner-field (omega arith) })
       lives-step
       (λ j f l m u. field-else j f m (λ x. false-true (sym u ∙ ap (used q Channels) x ∙ used-new)) ∙ e-entries .unused j f l m (sym (used-step j) ∙ u))
       e-entries
@@ -124,7 +124,7 @@ module _ (p : List ℕ) (o n : ℕ) (h : sound p ≡ true) (fp : has-position p 
   cases : (j : ℕ) → used q Channels j ≡ true → (j ≡ k) ⊎ ((j ≡ k → ⊥) × (used p Channels j ≡ true))
   cases j u = new-or-old p e Channels k g o (header-byte at) E there vacant j (sym (used-step j) ∙ u)
 
-  pub old : (j f : ℕ) → j < positions Channels → f < 4 → (j ≡ k → ⊥) → field q Channels j f ≡ field p Channels j f
+  pub old : (j f : ℕ) → j < positions Channels → f < width Channels → (j ≡ k → ⊥) → field q Channels j f ≡ field p Channels j f
   old j f l m x = field-else j f m x ∙ field-old p e Channels k g o (header-byte at) E there vacant j f l m x
 
   channels : Channels-fine q
@@ -132,7 +132,7 @@ module _ (p : List ℕ) (o n : ℕ) (h : sound p ≡ true) (fp : has-position p 
     entries = entries;
     one = λ j u. ⊎-elim
         (λ (x : j ≡ k). rw x (the.q-one p o n h fp tg rm))
-        (λ (v : (j ≡ k → ⊥) × (used p Channels j ≡ true)). old j 3 (used-below p Channels j (v .1)) (omega arith) (v .0) ∙ S .channels .one j (v .1))
+        (λ (v : (j ≡ k → ⊥) × (used p Channels j ≡ true)). old j ending-field (used-below p Channels j (v .1)) (omega arith) (v .0) ∙ S .channels .one j (v .1))
         (cases j u);
   }
 
@@ -161,10 +161,10 @@ module _ (p : List ℕ) (o n : ℕ) (h : sound p ≡ true) (fp : has-position p 
       record {
         before = x;
         now-too = rw (both (leb (first Channels) j) (used p Channels j) x .0, used-step j ∙ still-used p e Channels k g o (header-byte at) E there vacant j u);
-        base-as-was = old j 2 l (omega arith) m;
-        owner-as-was = old j 1 l (omega arith) m;
+        base-as-was = old j base-field l (omega arith) m;
+        owner-as-was = old j owner-field l (omega arith) m;
       }
-  still Jobs j l x = record { before = x; now-too = claims-same p q Jobs (J .mask) j ∙ x; base-as-was = J .fields j 2 l (omega arith); owner-as-was = J .fields j 1 l (omega arith) }
+  still Jobs j l x = record { before = x; now-too = claims-same p q Jobs (J .mask) j ∙ x; base-as-was = J .fields j base-field l (omega arith); owner-as-was = J .fields j owner-field l (omega arith) }
 
   entries-by : (t : Table) (j : ℕ) → j < positions t → claims q t j ≡ true → Still p q t j ⊎ ((i : ℕ) × Pair t j i)
   entries-by Channels j l x = ⊎-elim
@@ -182,8 +182,8 @@ module _ (p : List ℕ) (o n : ℕ) (h : sound p ≡ true) (fp : has-position p 
   pair = record {
     claim = rw (le-leb 0 k (omega arith), used-new);
     sorts = the.at-kind p o n h fp tg rm;
-    place = field-step k 2 (omega arith) ∙ E .its-base;
-    held = field-step k 1 (omega arith) ∙ E .its-owner ∙ sym (the.at-holder p o n h fp tg rm);
+    place = field-step k base-field (omega arith) ∙ E .its-base;
+    held = field-step k owner-field (omega arith) ∙ E .its-owner ∙ sym (the.at-holder p o n h fp tg rm);
   }
 
   rematched : (t : Table) → Rematched p q t (Pair t)
@@ -205,7 +205,7 @@ module _ (p : List ℕ) (o n : ℕ) (h : sound p ≡ true) (fp : has-position p 
       taken Channels i x y z = let f : kind p at ≡ 0 = eqb-true _ _ (the.at-free p o n h fp tg rm) in let w : kind p at ≡ queue-kind = rw y at z in omega arith
       taken Jobs i x y z = no-channel x
 
-  low : (j : ℕ) → j < 264 → (j ≡ 6 → ⊥) → (j ≡ 3 → ⊥) → word q j ≡ word p j
+  low : (j : ℕ) → j < first-record Channels → (j ≡ mask-word Channels → ⊥) → (j ≡ last-word Channels → ⊥) → word q j ≡ word p j
   low = the.q-low p o n h fp tg rm
 
   pub opened-sound : sound (opened p o n) ≡ true
@@ -222,4 +222,4 @@ module _ (p : List ℕ) (o n : ℕ) (h : sound p ≡ true) (fp : has-position p 
 
   pub opened-ages : (t : Table) → Ages p (opened p o n) t
   opened-ages Jobs = jobs-age p q J
-  opened-ages Channels = ages-then p e q Channels (entering-ages p e Channels k g o (header-byte at) E there vacant (omega arith) Channels) (ages-same e q Channels last-step mask-step (λ j l. field-step j 0 (omega arith)))
+  opened-ages Channels = ages-then p e q Channels (entering-ages p e Channels k g o (header-byte at) E there vacant (omega arith) Channels) (ages-same e q Channels last-step mask-step (λ j l. field-step j number-field (omega arith)))

@@ -11,15 +11,15 @@ use borrow.Author.Tests.{ltb-true}
 use Rattle.words.specs.Words.{word, put}
 use Rattle.words.specs.Each.{In}
 use Rattle.words.proofs.Tests.{false-true}
-use Rattle.picture.specs.Layout.{heap-base, heap-word, size-word, last-word, mask-word, greatest-tag, positions, width, from, upto}
-use Rattle.picture.specs.Records.{slot, field, used}
+use Rattle.picture.specs.Layout.{heap-base, heap-word, size-word, last-word, mask-word, greatest-tag, positions, width, from, upto, first-record, current-word}
+use Rattle.picture.specs.Records.{slot, field, used, ending-field}
 use Rattle.picture.specs.Numbers.{free-position, live}
 use Rattle.picture.specs.declared.Table.{Table}
 use Rattle.picture.specs.declared.Table.the-variants.{Jobs, Channels}
 use Rattle.picture.specs.declared.Area.{Area}
 use Rattle.picture.specs.declared.Area.the-variants.{Heap}
 use Rattle.picture.proofs.Records.{slot-within}
-use Rattle.blocks.specs.Header.{size, kind, queue-kind, free, holder, start, queue-length, queue-oldest, queue-count, queue-zero, rounded}
+use Rattle.blocks.specs.Header.{header-width, kind-field, holder-field, start-field, queue-length-field, queue-oldest-field, queue-count-field, queue-zero-field, queue-bytes-field, with-queue-length, size, kind, queue-kind, free, holder, start, queue-length, queue-oldest, queue-count, queue-zero, rounded}
 use Rattle.blocks.specs.Walk.{starts, blocks}
 use Rattle.blocks.proofs.Starts.{starts-in}
 use Rattle.headers.specs.Area.{Outside}
@@ -67,7 +67,7 @@ module _ (p : List ℕ) (o n : ℕ) (h : sound p ≡ true) (free-place : has-pos
   r₀ = placed p (spot p Heap (queue-bytes n)) (queue-bytes n) queue-kind o 0
 
   abbrev r : List ℕ
-  r = put (placed p (spot p Heap (queue-bytes n)) (queue-bytes n) queue-kind o 0) (spot p Heap (queue-bytes n) + 4) n
+  r = with-queue-length (placed p (spot p Heap (queue-bytes n)) (queue-bytes n) queue-kind o 0) (spot p Heap (queue-bytes n)) n
 
   abbrev pub e : List ℕ
   e = entered r Channels (free-position p Channels) (next-tag p Channels) o (header-byte (spot p Heap (queue-bytes n)))
@@ -75,7 +75,7 @@ module _ (p : List ℕ) (o n : ℕ) (h : sound p ≡ true) (free-place : has-pos
   abbrev pub q : List ℕ
   q = opened p o n
 
-  pub there : k < 32
+  pub there : k < positions Channels
   unfolding has-position
   there = ltb-true (free-position p Channels) (positions Channels) free-place
 
@@ -105,15 +105,15 @@ module _ (p : List ℕ) (o n : ℕ) (h : sound p ≡ true) (free-place : has-pos
   at-ends : at + queue-bytes n / 4 ≤ upto p Heap
   at-ends = subst (λ (x : ℕ). at + x / 4 ≤ upto p Heap) (B .its-size) (within r₀ at (upto p Heap) (B .tiled at (B .there)) (starts-in r₀ (from p Heap) (upto p Heap) at (B .there) .1))
 
-  at-inside : at + 8 ≤ length r₀
+  at-inside : at + queue-bytes-field ≤ length r₀
   at-inside = let b = at-ends in let g = lies Heap .inside in rw (B .as-long) (omega arith)
 
   -- then its length
-  length-other : (j : ℕ) → (j ≡ at + 4 → ⊥) → word r j ≡ word r₀ j
-  length-other j m = getD-set-other r₀ (at + 4) j n 0 m
+  length-other : (j : ℕ) → (j ≡ at + queue-length-field → ⊥) → word r j ≡ word r₀ j
+  length-other j m = getD-set-other r₀ (at + queue-length-field) j n 0 m
 
-  length-there : word r (at + 4) ≡ n
-  length-there = getD-set-same r₀ (at + 4) n 0 (let l = at-inside in omega arith)
+  length-there : word r (at + queue-length-field) ≡ n
+  length-there = getD-set-same r₀ (at + queue-length-field) n 0 (let l = at-inside in omega arith)
 
   r-tables : TablesSame p r
   r-tables = record { words = λ j l. let b = at-behind in length-other j (λ z. omega arith) ∙ block-tables .words j l; long = simp length-set (block-tables .long) }
@@ -127,7 +127,7 @@ module _ (p : List ℕ) (o n : ℕ) (h : sound p ≡ true) (free-place : has-pos
   vacated : In at (blocks p Heap) → free p at ≡ false → ⊥
   vacated m f = false-true (sym f ∙ at-free)
 
-  outside-room : (j : ℕ) → Outside (at + 4) (at + size r₀ at / 4) j → word r j ≡ word r₀ j
+  outside-room : (j : ℕ) → Outside (at + header-width) (at + size r₀ at / 4) j → word r j ≡ word r₀ j
   outside-room j (inl l) = length-other j (λ z. omega arith)
   outside-room j (inr l) = let z = B .its-size in length-other j (λ y. let x : at + queue-bytes n / 4 ≤ j = subst (λ (t : ℕ). at + t / 4 ≤ j) z l in omega arith)
 
@@ -150,13 +150,13 @@ module _ (p : List ℕ) (o n : ℕ) (h : sound p ≡ true) (free-place : has-pos
   e-long : length e ≡ length p
   e-long = entry .long
 
-  pub q-other : (j : ℕ) → (j ≡ slot Channels k + 3 → ⊥) → word q j ≡ word e j
+  pub q-other : (j : ℕ) → (j ≡ slot Channels k + ending-field → ⊥) → word q j ≡ word e j
   unfolding opened channelled queued
-  q-other j m = getD-set-other e (slot Channels k + 3) j 1 0 m
+  q-other j m = getD-set-other e (slot Channels k + ending-field) j 1 0 m
 
-  pub q-one : word q (slot Channels k + 3) ≡ 1
+  pub q-one : word q (slot Channels k + ending-field) ≡ 1
   unfolding opened channelled queued
-  q-one = getD-set-same e (slot Channels k + 3) 1 0 (let w = slot-within Channels k there in let m = S .sizes .least in rw e-long (omega arith))
+  q-one = getD-set-same e (slot Channels k + ending-field) 1 0 (let w = slot-within Channels k there in let m = S .sizes .least in rw e-long (omega arith))
 
   pub q-long : length q ≡ length p
   unfolding opened channelled queued
@@ -165,7 +165,7 @@ module _ (p : List ℕ) (o n : ℕ) (h : sound p ≡ true) (free-place : has-pos
   q-areas : (j : ℕ) → heap-base ≤ j → word q j ≡ word r j
   q-areas j l = let w = slot-within Channels k there in q-other j (λ z. omega arith) ∙ entering-keeps-the-areas r Channels k (next-tag p Channels) o (header-byte at) there whole j l
 
-  pub q-low : (j : ℕ) → j < 264 → (j ≡ 6 → ⊥) → (j ≡ 3 → ⊥) → word q j ≡ word p j
+  pub q-low : (j : ℕ) → j < first-record Channels → (j ≡ mask-word Channels → ⊥) → (j ≡ last-word Channels → ⊥) → word q j ≡ word p j
   q-low j l a b = q-other j (λ z. omega arith) ∙ entry .other j (omega arith) (inl (omega arith)) a b
 
   pub change : Change p q Heap (Only at) None
@@ -178,7 +178,7 @@ module _ (p : List ℕ) (o n : ℕ) (h : sound p ≡ true) (free-place : has-pos
     fields = λ j f a b. q-low (slot Jobs j + f) (omega arith) (λ x. omega arith) (λ x. omega arith);
     mask = q-low (mask-word Jobs) (omega arith) (λ x. omega arith) (λ x. omega arith);
     last = q-low (last-word Jobs) (omega arith) (λ x. omega arith) (λ x. omega arith);
-    current = q-low 1 (omega arith) (λ x. omega arith) (λ x. omega arith);
+    current = q-low current-word (omega arith) (λ x. omega arith) (λ x. omega arith);
   }
 
   -- its block in the picture that is left
@@ -187,29 +187,29 @@ module _ (p : List ℕ) (o n : ℕ) (h : sound p ≡ true) (free-place : has-pos
       let w = starts-between r q (from p Heap) (upto p Heap) (λ j l m. q-areas j l) in
       rw (change .ends Heap, w, r-walk) (B .there)
 
-  in-block : (j : ℕ) → (j ≡ at + 4 → ⊥) → at ≤ j → word q j ≡ word r₀ j
+  in-block : (j : ℕ) → (j ≡ at + queue-length-field → ⊥) → at ≤ j → word q j ≡ word r₀ j
   in-block j m l = let b = at-behind in q-areas j (omega arith) ∙ length-other j m
 
   pub at-kind : kind q at ≡ queue-kind
-  at-kind = in-block (at + 1) (λ z. omega arith) (omega arith) ∙ B .its-kind
+  at-kind = in-block (at + kind-field) (λ z. omega arith) (omega arith) ∙ B .its-kind
 
   pub at-holder : holder q at ≡ o
-  at-holder = in-block (at + 2) (λ z. omega arith) (omega arith) ∙ B .its-owner
+  at-holder = in-block (at + holder-field) (λ z. omega arith) (omega arith) ∙ B .its-owner
 
   pub at-start : start q at ≡ 0
-  at-start = in-block (at + 3) (λ z. omega arith) (omega arith) ∙ B .its-start
+  at-start = in-block (at + start-field) (λ z. omega arith) (omega arith) ∙ B .its-start
 
-  pub at-room : (f : ℕ) → 5 ≤ f → f < 8 → word q (at + f) ≡ 0
+  pub at-room : (f : ℕ) → queue-oldest-field ≤ f → f < queue-bytes-field → word q (at + f) ≡ 0
   at-room f a b = in-block (at + f) (λ z. omega arith) (omega arith) ∙ B .its-room (at + f) (omega arith) (omega arith)
 
   pub at-queue : 1 ≤ n → n ≤ longest-queue → Queue q at
   at-queue a b =
-      let z : queue-length q at ≡ n = (let x = at-behind in q-areas (at + 4) (omega arith)) ∙ length-there in
+      let z : queue-length q at ≡ n = (let x = at-behind in q-areas (at + queue-length-field) (omega arith)) ∙ length-there in
       record {
         least = rw z a;
         most = rw z b;
         long = rw z (in-block at (λ x. omega arith) (omega arith) ∙ B .its-size);
-        oldest = rw (z, at-room 5 (omega arith) (omega arith)) a;
-        held = rw (z, at-room 6 (omega arith) (omega arith)) (omega arith);
-        nought = at-room 7 (omega arith) (omega arith);
+        oldest = rw (z, at-room queue-oldest-field (omega arith) (omega arith)) a;
+        held = rw (z, at-room queue-count-field (omega arith) (omega arith)) (omega arith);
+        nought = at-room queue-zero-field (omega arith) (omega arith);
       }

@@ -12,7 +12,7 @@ use Rattle.picture.specs.Numbers.{position, live}
 use Rattle.picture.specs.declared.Table.the-variants.{Jobs, Channels}
 use Rattle.picture.specs.declared.Area.the-variants.{Heap}
 use Rattle.picture.proofs.Numbers.{Live, live-is}
-use Rattle.blocks.specs.Header.{kind, queue-kind, queue-count}
+use Rattle.blocks.specs.Header.{queue-count-field, kind, queue-kind, queue-count}
 use Rattle.matching.proofs.Counts.{Own}
 use Rattle.sound.specs.Sound.{sound}
 use Rattle.facts.proofs.Sound.{Sound}
@@ -66,4 +66,4 @@ a-new-channel-is-empty p d s h c =
     let w = pair p o n h (c .place) (c .tagged) (c .room) (c .lives) (number-some s (c .fair)) (number-small s) .place in
     let y : queue-of (opened p o n) k ≡ i = omega arith in
     ap (λ (x : ℕ). contents (opened p o n) (queue-of (opened p o n) x)) z ∙ ap (contents (opened p o n)) y
-    ∙ empty (opened p o n) i (the.at-room p o n h (c .place) (c .tagged) (c .room) 6 (omega arith) (omega arith))
+    ∙ empty (opened p o n) i (the.at-room p o n h (c .place) (c .tagged) (c .room) queue-count-field (omega arith) (omega arith))

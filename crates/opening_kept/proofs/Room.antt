@@ -10,7 +10,7 @@ use Rattle.words.specs.Each.{In}
 use Rattle.words.proofs.Tests.{lt-or-ge}
 use Rattle.picture.specs.Layout.{heap-base, from, upto}
 use Rattle.picture.specs.declared.Area.{Area}
-use Rattle.blocks.specs.Header.{size, free}
+use Rattle.blocks.specs.Header.{header-width, size, free}
 use Rattle.blocks.specs.Walk.{good, next, starts, blocks}
 use Rattle.blocks.proofs.Walk.{Good, is-good, next-good}
 use Rattle.blocks.proofs.Starts.{starts-in, next-same}
@@ -22,7 +22,7 @@ use Rattle.keeping.proofs.Change.{Change}
 use Rattle.queues_kept.proofs.Walk.{walk-same, blocks-apart}
 
 module _ (p r q : List ℕ) (a : Area) (New Goes : ℕ → Type 0) (C : Change p r a New Goes) (i : ℕ) (there : In i (starts r (from p a) (upto p a)))
-    (unused : In i (blocks p a) → free p i ≡ false → ⊥) (other : (j : ℕ) → Outside (i + 4) (i + size r i / 4) j → word q j ≡ word r j)
+    (unused : In i (blocks p a) → free p i ≡ false → ⊥) (other : (j : ℕ) → Outside (i + header-width) (i + size r i / 4) j → word q j ≡ word r j)
     (begins : (b : Area) → from q b ≡ from p b) (ends : (b : Area) → upto q b ≡ upto p b) where
   inside : i + size r i / 4 ≤ upto p a
   inside = within r i (upto p a) (C .tiled i there) (starts-in r (from p a) (upto p a) i there .1)
@@ -35,7 +35,7 @@ module _ (p r q : List ℕ) (a : Area) (New Goes : ℕ → Type 0) (C : Change p
   after-it j m l = let y = blocks-apart r (from p a) (upto p a) i j there m l in let z = next-good r i (upto p a) (C .tiled i there) in omega arith
 
   -- headers stay
-  header-same : (j f : ℕ) → In j (starts r (from p a) (upto p a)) → f < 4 → word q (j + f) ≡ word r (j + f)
+  header-same : (j f : ℕ) → In j (starts r (from p a) (upto p a)) → f < header-width → word q (j + f) ≡ word r (j + f)
   header-same j f m l = ⊎-elim
       (λ (x : j < i). let y = before-it j m x in let g = is-good r j (upto p a) (C .tiled j m) .least in other (j + f) (inl (omega arith)))
       (λ (x : i ≤ j). ⊎-elim (λ (y : i < j). let z = after-it j m y in other (j + f) (inr (omega arith))) (λ (y : j ≤ i). other (j + f) (inl (omega arith))) (lt-or-ge i j))
@@ -88,6 +88,6 @@ module _ (p r q : List ℕ) (a : Area) (New Goes : ℕ → Type 0) (C : Change p
     stays = λ j m f. ⊎-elim inl (λ (K : In j (starts r (from p a) (upto p a)) × Kept p r a j). inr (rw room-walk (K .0), kept-same j (K .0) (K .1))) (C .stays j m f);
   }
     where
-      out : (j : ℕ) → Outside (from p a) (upto p a) j → Outside (i + 4) (i + size r i / 4) j
+      out : (j : ℕ) → Outside (from p a) (upto p a) j → Outside (i + header-width) (i + size r i / 4) j
       out j (inl l) = let b = starts-in r (from p a) (upto p a) i there .0 in inl (omega arith)
       out j (inr l) = let b = inside in inr (omega arith)

@@ -12,12 +12,23 @@ use Rattle.words.proofs.Tests.{both}
 use Rattle.picture.specs.declared.Table.{Table}
 use Rattle.picture.specs.declared.Table.the-variants.{Jobs, Channels}
 use Rattle.picture.specs.Layout.{mask-word, positions, width, heap-base, first-record}
-use Rattle.picture.specs.Records.{slot, used}
+use Rattle.picture.specs.Records.{slot, base-field, used}
+use Rattle.picture.specs.Numbers.{tag-weight}
 
 -- a record lies before the heap
 pub slot-within : (t : Table) (k : ℕ) → k < positions t → slot t k + width t ≤ heap-base
 slot-within Jobs k l = omega arith
 slot-within Channels k l = omega arith
+
+-- either table has a number, an owner and a base
+pub shared : (t : Table) (f : ℕ) → f ≤ base-field → f < width t
+shared Jobs f l = omega arith
+shared Channels f l = omega arith
+
+-- a number has room for every position
+pub positions-named : (t : Table) → positions t ≤ tag-weight
+positions-named Jobs = omega arith
+positions-named Channels = omega arith
 
 pub positions-within : (t : Table) → positions t ≤ 32
 positions-within Jobs = omega arith

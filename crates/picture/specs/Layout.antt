@@ -1,5 +1,5 @@
 -- Document 01, "The picture": what each longword holds. Every number of the layout has its one home here.
-use Prim.Native.Nat.{ℕ, _+_, _*_}
+use Prim.Native.Nat.{ℕ, _+_, _*_, _/_}
 use mathlib.Core.List.{List}
 use Rattle.words.specs.Words.{word}
 use Rattle.picture.specs.declared.Table.{Table}
@@ -47,7 +47,7 @@ mask-word Channels = 6
 abbrev pub zero-word : ℕ
 zero-word = 7
 
--- 32 job records of 8 from longword 8 on, 32 channel records of 4 from longword 264 on
+-- 32 job records of 8 from longword 8 on, then 32 channel records of 4
 abbrev pub positions : Table → ℕ
 positions Jobs = 32
 positions Channels = 32
@@ -56,13 +56,16 @@ abbrev pub width : Table → ℕ
 width Jobs = 8
 width Channels = 4
 
-abbrev pub first-record : Table → ℕ
-first-record Jobs = 8
-first-record Channels = 264
+abbrev pub first-job : ℕ
+first-job = 8
 
--- from longword 392 on the heap (H longwords), then the transient area
+abbrev pub first-record : Table → ℕ
+first-record Jobs = first-job
+first-record Channels = first-job + width Jobs * positions Jobs
+
+-- then, from the next multiple of 4 on, the heap (H longwords), then the transient area
 abbrev pub heap-base : ℕ
-heap-base = 392
+heap-base = (first-record Channels + width Channels * positions Channels + 3) / 4 * 4
 
 abbrev pub from : List ℕ → Area → ℕ
 from p Heap = heap-base

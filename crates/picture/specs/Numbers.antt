@@ -14,14 +14,17 @@ use Rattle.picture.specs.declared.JobFound.the-variants as job
 use Rattle.picture.specs.declared.ChannelFound.{ChannelFound}
 use Rattle.picture.specs.declared.ChannelFound.the-variants as channel
 
+abbrev pub tag-weight : ℕ
+tag-weight = 65536
+
 abbrev pub tag : ℕ → ℕ
-tag n = n / 65536
+tag n = n / tag-weight
 
 abbrev pub position : ℕ → ℕ
-position n = n % 65536
+position n = n % tag-weight
 
 abbrev pub number-of : ℕ → ℕ → ℕ
-number-of g k = g * 65536 + k
+number-of g k = g * tag-weight + k
 
 -- the number n names a live entry of the table
 unfoldable pub live : List ℕ → Table → ℕ → Bool

@@ -3,14 +3,15 @@ use words::word;
 ghost use mathlib.Core.Path.{_≡_};
 ghost use Prim.Native.Nat.{_+_, _*_, _/_, _%_, _<_, _≤_};
 ghost use Rattle.words.specs.Words.{word};
-ghost use Rattle.picture.specs.Layout.{positions, width, from, upto, last-word as lastWord, mask-word as maskWord, heap-base as heapBase};
+ghost use Rattle.picture.specs.Layout.{positions, width, from, upto, last-word as lastWord, mask-word as maskWord, heap-base as heapBase, greatest-tag as greatestTag};
+ghost use Rattle.picture.specs.declared.Table.the-variants.{Jobs};
 ghost use Rattle.picture.specs.Records.{slot, field, used, ready, active};
-ghost use Rattle.picture.specs.Numbers.{live, job-at as jobAt, channel-at as channelAt, free-position as freePosition, number-of as numberOf};
+ghost use Rattle.picture.specs.Numbers.{tag-weight as tagWeight, tag, position, live, job-at as jobAt, channel-at as channelAt, free-position as freePosition, number-of as numberOf};
 
 // $FFFFFFFF: nobody, or timeout -1.
 pub const NOBODY: u32 = 0xFFFF_FFFF;
 
-// The longwords before the tables, and where the tables and the heap start.
+// The longwords before the tables.
 pub const SIZE_WORD: usize = 0;
 
 pub const CURRENT_WORD: usize = 1;
@@ -18,12 +19,6 @@ pub const CURRENT_WORD: usize = 1;
 pub const HEAP_WORD: usize = 4;
 
 pub const ZERO_WORD: usize = 7;
-
-pub const FIRST_JOB: usize = 8;
-
-pub const FIRST_CHANNEL: usize = 264;
-
-pub const HEAP_BASE: usize = 392;
 
 // N lies between these.
 pub const LEAST_SIZE: usize = 1024;
@@ -38,6 +33,16 @@ pub const CHANNELS: usize = 32;
 pub const JOB_WIDTH: usize = 8;
 
 pub const CHANNEL_WIDTH: usize = 4;
+
+// Where the tables and the heap start.
+pub const FIRST_JOB: usize = 8;
+
+pub const FIRST_CHANNEL: usize = FIRST_JOB + JOB_WIDTH * JOBS;
+
+pub const HEAP_BASE: usize = (FIRST_CHANNEL + CHANNEL_WIDTH * CHANNELS + 3) / 4 * 4;
+
+// In a number a tag is worth so much, and every position is below it.
+pub const TAG_WEIGHT: u32 = 65536;
 
 // Tags run to this one.
 pub const GREATEST_TAG: u32 = 32767;
@@ -62,9 +67,9 @@ pub const ACCUMULATED: usize = 4;
 
 pub const TIMEOUT: usize = 5;
 
-pub const WAITED_FOR: usize = 6;
+pub const WAIT: usize = 6;
 
-pub const DELIVERED: usize = 7;
+pub const KEY: usize = 7;
 
 pub const ENDING: usize = 3;
 
@@ -120,7 +125,7 @@ pub enum ChannelFound {
 
 // How many positions the table has.
 pub fn positions_of(t: Table) -> usize
-    ensures { λ r. ⌜ (r ≡ positions t) × (r ≤ 32) ⌝ }
+    ensures { λ r. ⌜ r ≡ positions t ⌝ }
 {
     match t {
         Table::Jobs => JOBS,
@@ -130,7 +135,7 @@ pub fn positions_of(t: Table) -> usize
 
 // How many longwords a record of the table has.
 pub fn width_of(t: Table) -> usize
-    ensures { λ r. ⌜ (r ≡ width t) × (r ≤ 8) ⌝ }
+    ensures { λ r. ⌜ r ≡ width t ⌝ }
 {
     match t {
         Table::Jobs => JOB_WIDTH,
@@ -171,7 +176,7 @@ pub fn slot_of(t: Table, k: usize) -> usize
 
 // Field f of the record of position k.
 pub fn field_of(p: &[u32], t: Table, k: usize, f: usize) -> u32
-    requires { ⌜ (k < positions t) × (f < 8) ⌝ }
+    requires { ⌜ (k < positions t) × (f < width t) ⌝ }
     ensures { λ r. ⌜ r ≡ field (now (p .entry)) t k f ⌝ }
 {
     word(p, slot_of(t, k) + f)
@@ -189,7 +194,7 @@ pub fn is_used(p: &[u32], t: Table, k: usize) -> bool
 
 // The job at position k is ready.
 pub fn is_ready(p: &[u32], k: usize) -> bool
-    requires { ⌜ k < 32 ⌝ }
+    requires { ⌜ k < positions Jobs ⌝ }
     ensures { λ r. ⌜ r ≡ ready (now (p .entry)) k ⌝ }
 {
     (1 <= field_of(p, Table::Jobs, k, PRIORITY)) & (field_of(p, Table::Jobs, k, TIMEOUT) == 0)
@@ -197,25 +202,39 @@ pub fn is_ready(p: &[u32], k: usize) -> bool
 
 // The job at position k is active.
 pub fn is_active(p: &[u32], k: usize) -> bool
-    requires { ⌜ k < 32 ⌝ }
+    requires { ⌜ k < positions Jobs ⌝ }
     ensures { λ r. ⌜ r ≡ active (now (p .entry)) k ⌝ }
 {
     1 <= field_of(p, Table::Jobs, k, PRIORITY)
 }
 
+// The tag of a number.
+pub fn tag_of(n: u32) -> u32
+    ensures { λ r. ⌜ r ≡ tag n ⌝ }
+{
+    n / TAG_WEIGHT
+}
+
+// The position of a number.
+pub fn position_of(n: u32) -> usize
+    ensures { λ r. ⌜ (r ≡ position n) × (r < tagWeight) ⌝ }
+{
+    (n % TAG_WEIGHT) as usize
+}
+
 // The number of the entry with this tag at this position.
 pub fn number_of(tag: u32, position: usize) -> u32
-    requires { ⌜ (tag ≤ 32767) × (position < 32) ⌝ }
+    requires { ⌜ (tag ≤ greatestTag) × (position < tagWeight) ⌝ }
     ensures { λ r. ⌜ r ≡ numberOf tag position ⌝ }
 {
-    tag * 65536 + position as u32
+    tag * TAG_WEIGHT + position as u32
 }
 
 // The number n names a live entry of the table.
 pub fn is_live(p: &[u32], t: Table, n: u32) -> bool
     ensures { λ r. ⌜ r ≡ live (now (p .entry)) t n ⌝ }
 {
-    let k = (n % 65536) as usize;
+    let k = position_of(n);
     if !is_used(p, t, k) {
         return false;
     }
@@ -228,7 +247,7 @@ pub fn job_at(p: &[u32], n: JobNumber) -> JobFound
 {
     let number = n.0;
     if is_live(p, Table::Jobs, number) {
-        return JobFound::At((number % 65536) as usize);
+        return JobFound::At(position_of(number));
     }
     JobFound::Dead
 }
@@ -239,14 +258,14 @@ pub fn channel_at(p: &[u32], n: ChannelNumber) -> ChannelFound
 {
     let number = n.0;
     if is_live(p, Table::Channels, number) {
-        return ChannelFound::At((number % 65536) as usize);
+        return ChannelFound::At(position_of(number));
     }
     ChannelFound::Dead
 }
 
 // The lowest position that is free, or the number of positions for none.
 pub fn free_position(p: &[u32], t: Table) -> usize
-    ensures { λ r. ⌜ (r ≡ freePosition (now (p .entry)) t) × (r ≤ 32) ⌝ }
+    ensures { λ r. ⌜ (r ≡ freePosition (now (p .entry)) t) × (r ≤ positions t) ⌝ }
 {
     words::lowest_clear(word(p, mask_of(t)))
 }

@@ -6,7 +6,7 @@ use mathlib.Core.Bool.{Bool, _&&_, cond}
 use mathlib.Core.List.{List, [], _∷_}
 use lib.Dec.{leb, ltb}
 use Rattle.words.specs.Words.{clear}
-use Rattle.blocks.specs.Header.{size, free}
+use Rattle.blocks.specs.Header.{header-width, size, free}
 use Rattle.blocks.specs.Walk.{starts}
 use Rattle.headers.specs.Header.{header}
 use Rattle.placing.specs.declared.Placement.{Placement}
@@ -31,7 +31,7 @@ split p i n = cond (ltb n (size p i)) (header p (i + n / 4) (size p i - n) 0 0 0
 
 -- a block of n bytes, kind k, owner o and start address s at the low end of the free block at i; its room is cleared
 unfoldable pub placed : List ℕ → ℕ → ℕ → ℕ → ℕ → ℕ → List ℕ
-placed p i n k o s = clear (n / 4 - 4) (header (split p i n) i n k o s) (i + 4)
+placed p i n k o s = clear (n / 4 - header-width) (header (split p i n) i n k o s) (i + header-width)
 
 -- the answer
 unfoldable pub answer : List ℕ → ℕ → ℕ → ℕ → Placement

@@ -1,6 +1,7 @@
 // Placing a block in an area of a lent picture, from longword base up to e.
 use blocks::FREE;
 use blocks::HEADER;
+use blocks::KIND;
 use blocks::next_block;
 use headers::put_header;
 use words::clear;
@@ -21,7 +22,7 @@ pub fn is_fit(p: &[u32], i: usize, n: u64) -> bool
     requires { ⌜ i < 18446744073709551615 ⌝ }
     ensures { λ r. ⌜ r ≡ fits (now (p .entry)) n i ⌝ }
 {
-    (word(p, i + 1) == FREE) & (n <= word(p, i) as u64)
+    (word(p, i + KIND) == FREE) & (n <= word(p, i) as u64)
 }
 
 // The block where n bytes are placed, e for none.
@@ -89,7 +90,7 @@ pub fn longer_of(p: &[u32], best: u32, i: usize) -> u32
     ensures { λ r. ⌜ r ≡ longer (now (p .entry)) best i ⌝ }
 {
     let size = word(p, i);
-    if (word(p, i + 1) == FREE) & (best < size) {
+    if (word(p, i + KIND) == FREE) & (best < size) {
         return size;
     }
     best

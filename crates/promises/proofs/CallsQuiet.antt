@@ -11,8 +11,8 @@ use lib.Dec.{leb, eqb}
 use lib.IntN.{ℤ, pos, negsuc}
 use borrow.Author.Tests.{eqb-true, eqb-false}
 use Rattle.words.proofs.Tests.{both, false-true}
-use Rattle.picture.specs.Layout.{nobody, heap-base, positions}
-use Rattle.picture.specs.Records.{field, number, priority, accumulated, timeout, used, ready, active}
+use Rattle.picture.specs.Layout.{nobody, heap-base, positions, width}
+use Rattle.picture.specs.Records.{field, number, priority, accumulated, timeout, used, ready, active, accumulated-field, key-field, timeout-field, wait-field, with-accumulated, with-field, with-key, with-priority, with-timeout, with-wait}
 use Rattle.picture.specs.Numbers.{position, live}
 use Rattle.picture.specs.declared.Table.the-variants.{Jobs}
 use Rattle.picture.proofs.Records.{used-below}
@@ -27,7 +27,7 @@ use Rattle.facts.proofs.View.{view}
 use Rattle.calls.specs.Outcome.{Outcome}
 use Rattle.calls.specs.Call.{outcome}
 use Rattle.calls.specs.Registers.{D1, D2, D3, A0, A1, caller, meant}
-use Rattle.calls.specs.Writes.{with-field, with-nobody}
+use Rattle.calls.specs.Writes.{with-nobody}
 use Rattle.steady.proofs.Steady.{Steady, steady-used}
 use Rattle.steady.proofs.Writes.{field-kept, field-written, field-nobody, Written, written-none, written-field}
 use Rattle.effects.specs.Effects.{suspends, suspended, released, prioritized, endless, waiting}
@@ -66,7 +66,7 @@ pending-is-quiet j p d = pending-ways (λ (o : Outcome). Quiet j p (o .picture))
 
 -- the calls that leave the tables as they are
 tables-quiet : (j : ℕ) → j < positions Jobs → (p q : List ℕ) → TablesSame p q → Quiet j p q
-tables-quiet j l p q s = kept-or-cleared-is-quiet j p q (field-same p q s Jobs j 4 l (omega arith)) (λ i m ne. inl (field-same p q s Jobs i 4 m (omega arith)))
+tables-quiet j l p q s = kept-or-cleared-is-quiet j p q (field-same p q s Jobs j accumulated-field l (omega arith)) (λ i m ne. inl (field-same p q s Jobs i accumulated-field m (omega arith)))
 
 pub take-is-quiet : (j : ℕ) → j < positions Jobs → (p d : List ℕ) → sound p ≡ true → Quiet j p (outcome take p d .picture)
 take-is-quiet j l p d h = take-ways (λ (o : Outcome). Quiet j p (o .picture)) p d (λ k. nothing-is-quiet j p) (λ a b c. tables-quiet j l p (taken p d) (taken-tables p d h b c))
@@ -86,13 +86,13 @@ send-is-quiet j l p d s = send-ways (λ (o : Outcome). Quiet j p (o .picture)) p
 
 -- nobody becomes current
 nobody-quiet : (j : ℕ) (p q : List ℕ) → Quiet j p q → Quiet j p (with-nobody q)
-nobody-quiet j p q s = quiet-after-quiet j p q (with-nobody q) s (kept-is-quiet j q (with-nobody q) (λ i. field-nobody q i 4))
+nobody-quiet j p q s = quiet-after-quiet j p q (with-nobody q) s (kept-is-quiet j q (with-nobody q) (λ i. field-nobody q i accumulated-field))
 
 -- another job's record changes, and its accumulated becomes 0
 record-quiet : (j k : ℕ) (p q : List ℕ) → Written p q k → accumulated q k ≡ 0 → (j ≡ k → ⊥) → Quiet j p q
 record-quiet j k p q w nought ne =
-    kept-or-cleared-is-quiet j p q (w .others j ne 4 (omega arith))
-    (λ i l ij. by-cases (ℕ-discrete i k) (λ e. inr (ap (accumulated q) e ∙ nought)) (λ n. inl (w .others i n 4 (omega arith))))
+    kept-or-cleared-is-quiet j p q (w .others j ne accumulated-field (omega arith))
+    (λ i l ij. by-cases (ℕ-discrete i k) (λ e. inr (ap (accumulated q) e ∙ nought)) (λ n. inl (w .others i n accumulated-field (omega arith))))
 
 -- a ready job has timeout 0 and a priority
 ready-timeout : (p : List ℕ) (k : ℕ) → ready p k ≡ true → timeout p k ≡ 0
@@ -106,13 +106,13 @@ ready-active p k r = both (leb 1 (priority p k)) (eqb (timeout p k) 0) r .0
 -- $9
 module _ (p : List ℕ) (k : ℕ) where
   abbrev r1 : List ℕ
-  r1 = with-field p Jobs k 5 0
+  r1 = with-timeout p k 0
 
   abbrev r2 : List ℕ
-  r2 = with-field r1 Jobs k 6 0
+  r2 = with-wait r1 k 0
 
   abbrev r3 : List ℕ
-  r3 = with-field r2 Jobs k 7 0
+  r3 = with-key r2 k 0
 
   released-accumulated : (i : ℕ) → accumulated (released p k) i ≡ accumulated p i
   unfolding released
@@ -121,9 +121,9 @@ module _ (p : List ℕ) (k : ℕ) where
       go : (b : Bool) → accumulated (cond b p r3) i ≡ accumulated p i
       go true = refl
       go false =
-          field-kept r2 i k 4 7 0 (omega arith) (omega arith) (λ e. omega arith)
-          ∙ field-kept r1 i k 4 6 0 (omega arith) (omega arith) (λ e. omega arith)
-          ∙ field-kept p i k 4 5 0 (omega arith) (omega arith) (λ e. omega arith)
+          field-kept r2 i k accumulated-field key-field 0 (omega arith) (omega arith) (λ e. omega arith)
+          ∙ field-kept r1 i k accumulated-field wait-field 0 (omega arith) (omega arith) (λ e. omega arith)
+          ∙ field-kept p i k accumulated-field timeout-field 0 (omega arith) (omega arith) (λ e. omega arith)
 
 pub release-is-quiet : (j : ℕ) → j < positions Jobs → (p d : List ℕ) → sound p ≡ true → Quiet j p (outcome release p d .picture)
 release-is-quiet j l p d h = release-ways (λ (o : Outcome). Quiet j p (o .picture)) p d (λ k. nothing-is-quiet j p)
@@ -151,32 +151,32 @@ module _ (p : List ℕ) (S : Sound p) (k : ℕ) (u : used p Jobs k ≡ true) whe
   room : heap-base ≤ length p
   room = let l = S .sizes .least in omega arith
 
-  reads : (q : List ℕ) (f v : ℕ) → f < 8 → length q ≡ length p → field (with-field q Jobs k f v) Jobs k f ≡ v
+  reads : (q : List ℕ) (f v : ℕ) → f < width Jobs → length q ≡ length p → field (with-field q Jobs k f v) Jobs k f ≡ v
   reads q f v l e = let b = below in let r = room in field-written q k f v (omega arith)
 
   module _ (t : ℕ) where
     abbrev s1 : List ℕ
-    s1 = with-field p Jobs k 5 t
+    s1 = with-timeout p k t
 
     abbrev s2 : List ℕ
-    s2 = with-field s1 Jobs k 6 0
+    s2 = with-wait s1 k 0
 
     abbrev s3 : List ℕ
-    s3 = with-field s2 Jobs k 4 0
+    s3 = with-accumulated s2 k 0
 
     suspended-timeout : timeout (suspended p k t) k ≡ t
     unfolding suspended
     suspended-timeout =
-        field-kept s3 k k 5 7 0 (omega arith) (omega arith) (λ e. omega arith)
-        ∙ field-kept s2 k k 5 4 0 (omega arith) (omega arith) (λ e. omega arith)
-        ∙ field-kept s1 k k 5 6 0 (omega arith) (omega arith) (λ e. omega arith)
-        ∙ reads p 5 t (omega arith) refl
+        field-kept s3 k k timeout-field key-field 0 (omega arith) (omega arith) (λ e. omega arith)
+        ∙ field-kept s2 k k timeout-field accumulated-field 0 (omega arith) (omega arith) (λ e. omega arith)
+        ∙ field-kept s1 k k timeout-field wait-field 0 (omega arith) (omega arith) (λ e. omega arith)
+        ∙ reads p timeout-field t (omega arith) refl
 
     suspended-nought : accumulated (suspended p k t) k ≡ 0
     unfolding suspended
     suspended-nought =
-        field-kept s3 k k 4 7 0 (omega arith) (omega arith) (λ e. omega arith)
-        ∙ reads s2 4 0 (omega arith) (simp length-set)
+        field-kept s3 k k accumulated-field key-field 0 (omega arith) (omega arith) (λ e. omega arith)
+        ∙ reads s2 accumulated-field 0 (omega arith) (simp length-set)
 
     suspended-quiet : (n j g : ℕ) → (t ≡ 0 → ⊥) → Stands n j g (with-nobody (suspended p k t)) → Quiet j p (suspended p k t)
     suspended-quiet n j g some s = record-quiet j k p (suspended p k t) (suspended-written p S k u t) suspended-nought (λ e.
@@ -185,7 +185,7 @@ module _ (p : List ℕ) (S : Sound p) (k : ℕ) (u : used p Jobs k ≡ true) whe
   -- $A, $B
   prioritized-nought : (v : ℕ) → accumulated (prioritized p k v) k ≡ 0
   unfolding prioritized
-  prioritized-nought v = reads (with-field p Jobs k 3 v) 4 0 (omega arith) (simp length-set)
+  prioritized-nought v = reads (with-priority p k v) accumulated-field 0 (omega arith) (simp length-set)
 
   prioritized-quiet : (j v : ℕ) → (j ≡ k → ⊥) → Quiet j p (prioritized p k v)
   prioritized-quiet j v ne = record-quiet j k p (prioritized p k v) (prioritized-written p S k u v) (prioritized-nought v) ne
@@ -217,13 +217,13 @@ module _ (p : List ℕ) (S : Sound p) (m v : ℕ) (lives : live p Jobs m ≡ tru
   c = position (caller p)
 
   abbrev c1 : List ℕ
-  c1 = with-field q Jobs c 5 nobody
+  c1 = with-timeout q c nobody
 
   abbrev c2 : List ℕ
-  c2 = with-field c1 Jobs c 4 0
+  c2 = with-accumulated c1 c 0
 
   abbrev c3 : List ℕ
-  c3 = with-field c2 Jobs c 6 m
+  c3 = with-wait c2 c m
 
   k-used : used p Jobs k ≡ true
   k-used = live-is p Jobs m lives .used
@@ -242,23 +242,23 @@ module _ (p : List ℕ) (S : Sound p) (m v : ℕ) (lives : live p Jobs m ≡ tru
 
   waits-written : Written q c3 c
   waits-written =
-      written-field q c2 c 6 m (omega arith) (omega arith)
-      (written-field q c1 c 4 0 (omega arith) (omega arith)
-      (written-field q q c 5 nobody (omega arith) (omega arith) (written-none q c c-used)))
+      written-field q c2 c wait-field m (omega arith) (omega arith)
+      (written-field q c1 c accumulated-field 0 (omega arith) (omega arith)
+      (written-field q q c timeout-field nobody (omega arith) (omega arith) (written-none q c c-used)))
 
   c-timeout : timeout c3 c ≡ nobody
   c-timeout =
-      field-kept c2 c c 5 6 m (omega arith) (omega arith) (λ e. omega arith)
-      ∙ field-kept c1 c c 5 4 0 (omega arith) (omega arith) (λ e. omega arith)
-      ∙ reads p S c c-was-used q 5 nobody (omega arith) (changed .steady .long)
+      field-kept c2 c c timeout-field wait-field m (omega arith) (omega arith) (λ e. omega arith)
+      ∙ field-kept c1 c c timeout-field accumulated-field 0 (omega arith) (omega arith) (λ e. omega arith)
+      ∙ reads p S c c-was-used q timeout-field nobody (omega arith) (changed .steady .long)
 
   c1-long : length c1 ≡ length q
   c1-long = simp length-set
 
   c-nought : accumulated c3 c ≡ 0
   c-nought =
-      field-kept c2 c c 4 6 m (omega arith) (omega arith) (λ e. omega arith)
-      ∙ reads p S c c-was-used c1 4 0 (omega arith) (c1-long ∙ changed .steady .long)
+      field-kept c2 c c accumulated-field wait-field m (omega arith) (omega arith) (λ e. omega arith)
+      ∙ reads p S c c-was-used c1 accumulated-field 0 (omega arith) (c1-long ∙ changed .steady .long)
 
   not-caller : Stands n j g (with-nobody c3) → j ≡ c → ⊥
   not-caller s e =

@@ -9,7 +9,7 @@ use native.Mathlib.Omega.{arith}
 use Rattle.words.specs.Bits.{bit}
 use Rattle.words.proofs.Tests.{false-true}
 use Rattle.picture.specs.Layout.{heap-base, positions, from, upto}
-use Rattle.picture.specs.Records.{slot, priority, accumulated, used, ready}
+use Rattle.picture.specs.Records.{slot, priority, accumulated, used, ready, accumulated-field, priority-field}
 use Rattle.picture.specs.Numbers.{position, live}
 use Rattle.picture.specs.declared.Table.the-variants.{Jobs, Channels}
 use Rattle.picture.specs.declared.Area.the-variants.{Heap}
@@ -35,7 +35,7 @@ use Rattle.tree.specs.Tree.{tree}
 use Rattle.emptying.specs.Taken.{channels-of}
 use Rattle.ending.specs.Ended.{ended}
 use Rattle.ending.specs.Remove.{asked, remove, force-remove}
-use Rattle.ended.proofs.Taken.{Taken}
+use Rattle.ended.proofs.Taken.{Taken, taken-gains}
 use Rattle.ended.proofs.Sound.{ended-tables}
 use Rattle.ended.proofs.Calls.{of-remove, of-force-remove}
 use Rattle.entering.specs.Entry.{next-tag}
@@ -65,7 +65,7 @@ closed-keeps p n s l i m =
     let B : TablesSame p (swept p (from p Heap) (upto p Heap) 0 (queue-of p (position n))) = giving-back-keeps-the-tables p Heap (queue-of p (position n)) (S .tiled Heap) (areas-lie-in-a-sound-picture p s Heap) in
     let w : heap-base ≤ length (swept p (from p Heap) (upto p Heap) 0 (queue-of p (position n))) = (let z = S .sizes .least in rw (B .long) (omega arith)) in
     let F : Forgotten (swept p (from p Heap) (upto p Heap) 0 (queue-of p (position n))) (closed p (position n)) Channels (position n) = forgotten-is (swept p (from p Heap) (upto p Heap) 0 (queue-of p (position n))) Channels (position n) (live-below p n l) w in
-    F .other (slot Jobs i + 4) (inl (omega arith)) (λ e. omega arith) ∙ B .words (slot Jobs i + 4) (omega arith)
+    F .other (slot Jobs i + accumulated-field) (inl (omega arith)) (λ e. omega arith) ∙ B .words (slot Jobs i + accumulated-field) (omega arith)
 
 pub close-channel-is-quiet : (j : ℕ) → j < positions Jobs → (p d : List ℕ) → sound p ≡ true → Quiet j p (outcome close-channel p d .picture)
 close-channel-is-quiet j l p d s = close-channel-ways (λ (o : Outcome). Quiet j p (o .picture)) p d (λ k. nothing-is-quiet j p)
@@ -75,7 +75,7 @@ close-channel-is-quiet j l p d s = close-channel-ways (λ (o : Outcome). Quiet j
 pub open-channel-is-quiet : (j : ℕ) → j < positions Jobs → (p d name : List ℕ) → sound p ≡ true → Quiet j p (outcome (open-channel name) p d .picture)
 open-channel-is-quiet j l p d name s = open-channel-ways (λ (o : Outcome). Quiet j p (o .picture)) p d name (λ k. nothing-is-quiet j p)
     (λ (c : Checked p d name). kept-below-is-quiet j l p (opened p (meant p (D1 d)) (number-in (named name)))
-    (λ i m. jobs-same p (meant p (D1 d)) (number-in (named name)) s (c .place) (c .tagged) (c .room) .fields i 4 m (omega arith)))
+    (λ i m. jobs-same p (meant p (D1 d)) (number-in (named name)) s (c .place) (c .tagged) (c .room) .fields i accumulated-field m (omega arith)))
 
 -- a job is created: its accumulated is 0, at a position that was free
 module _ (p d : List ℕ) (s : sound p ≡ true) (c : creating.Checked p d) where
@@ -86,10 +86,10 @@ module _ (p d : List ℕ) (s : sound p ≡ true) (c : creating.Checked p d) wher
   E = the.made-entry p d s c
 
   created-keeps : (i : ℕ) → i < positions Jobs → (i ≡ k → ⊥) → accumulated (created p d) i ≡ accumulated p i
-  created-keeps i l n = field-old p (created p d) Jobs k (next-tag p Jobs) (the.owner p d s c) (header-byte (the.at p d s c)) E (the.place-there p d s c) (the.place-vacant p d s c) i 4 l (omega arith) n
+  created-keeps i l n = field-old p (created p d) Jobs k (next-tag p Jobs) (the.owner p d s c) (header-byte (the.at p d s c)) E (the.place-there p d s c) (the.place-vacant p d s c) i accumulated-field l (omega arith) n
 
   created-zero : accumulated (created p d) k ≡ 0
-  created-zero = E .its-rest 4 (omega arith) (omega arith)
+  created-zero = E .its-rest accumulated-field (omega arith) (omega arith)
 
   created-gains-nothing : (i : ℕ) → i < positions Jobs → accumulated (created p d) i ≤ accumulated p i
   created-gains-nothing i l = ⊎-elim
@@ -122,15 +122,15 @@ module _ (p : List ℕ) (s : sound p ≡ true) (t key : ℕ) (u : used p Jobs t 
 
   ended-gains-nothing : (i : ℕ) → i < positions Jobs → accumulated (ended p t key) i ≤ accumulated p i
   ended-gains-nothing i l = ⊎-elim
-      (λ b. let y : accumulated (ended p t key) i ≡ 0 = T .blank Jobs i 4 l (omega arith) b in omega (arith, y))
-      (λ b. omega (arith, T .gains i l b))
+      (λ b. let y : accumulated (ended p t key) i ≡ 0 = T .blank Jobs i accumulated-field l (omega arith) b in omega (arith, y))
+      (λ b. omega (arith, taken-gains p (ended p t key) (tree p t) (channels-of p (tree p t)) key T i l b))
       (passes (bit (tree p t) i))
 
   ended-is-quiet : (n j g : ℕ) → j < positions Jobs → Stands n j g (ended p t key) → Quiet j p (ended p t key)
   ended-is-quiet n j g l st = record {
     own = ⊎-elim
-        (λ b. absurd (false-true (sym (idle-at-zero (ended p t key) j (T .blank Jobs j 3 l (omega arith) b)) ∙ st .is-ready)))
-        (λ b. omega (arith, T .gains j l b))
+        (λ b. absurd (false-true (sym (idle-at-zero (ended p t key) j (T .blank Jobs j priority-field l (omega arith) b)) ∙ st .is-ready)))
+        (λ b. omega (arith, taken-gains p (ended p t key) (tree p t) (channels-of p (tree p t)) key T j l b))
         (passes (bit (tree p t) j));
     others = λ i x ne. ended-gains-nothing i x;
   }

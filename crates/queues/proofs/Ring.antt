@@ -12,7 +12,7 @@ use native.Mathlib.Numerals.{add-one}
 use borrow.Author.Tests.{lt-ltb, le-ltb, leb-true, leb-false, le-leb, lt-leb}
 use Rattle.words.specs.Words.{word, put}
 use Rattle.words.proofs.Tests.{lt-or-ge}
-use Rattle.blocks.specs.Header.{queue-length, queue-oldest, queue-count}
+use Rattle.blocks.specs.Header.{queue-length-field, queue-oldest-field, queue-count-field, queue-bytes-field, with-queue-oldest, queue-length, queue-oldest, queue-count}
 use Rattle.queues.specs.Bytes.{byte-word, byte-at, with-byte-at}
 use Rattle.queues.specs.Ring.{Ring, round, index, waits, full, oldest-byte, fetched, sent, listed, contents}
 use Rattle.queues.proofs.Bytes.{byte-at-same, byte-written, byte-kept, length-with-byte-at, with-byte-at-other}
@@ -98,25 +98,25 @@ module _ (p : List ℕ) (i : ℕ) where
   unfolding fetched
   length-fetched = simp length-set
 
-  pub fetched-other : (k : ℕ) → (k ≡ i + 5 → ⊥) → (k ≡ i + 6 → ⊥) → word (fetched p i) k ≡ word p k
+  pub fetched-other : (k : ℕ) → (k ≡ i + queue-oldest-field → ⊥) → (k ≡ i + queue-count-field → ⊥) → word (fetched p i) k ≡ word p k
   unfolding fetched
-  fetched-other k m n = rw (getD-set-other (put p (i + 5) (index p i 1)) (i + 6) k (queue-count p i - 1) 0 n, getD-set-other p (i + 5) k (index p i 1) 0 m)
+  fetched-other k m n = rw (getD-set-other (with-queue-oldest p i (index p i 1)) (i + queue-count-field) k (queue-count p i - 1) 0 n, getD-set-other p (i + queue-oldest-field) k (index p i 1) 0 m)
 
-  pub fetched-oldest : i + 8 ≤ length p → queue-oldest (fetched p i) i ≡ index p i 1
+  pub fetched-oldest : i + queue-bytes-field ≤ length p → queue-oldest (fetched p i) i ≡ index p i 1
   unfolding fetched
-  fetched-oldest h = rw (getD-set-other (put p (i + 5) (index p i 1)) (i + 6) (i + 5) (queue-count p i - 1) 0 (omega arith), getD-set-same p (i + 5) (index p i 1) 0 (omega arith))
+  fetched-oldest h = rw (getD-set-other (with-queue-oldest p i (index p i 1)) (i + queue-count-field) (i + queue-oldest-field) (queue-count p i - 1) 0 (omega arith), getD-set-same p (i + queue-oldest-field) (index p i 1) 0 (omega arith))
 
-  pub fetched-count : i + 8 ≤ length p → queue-count (fetched p i) i ≡ queue-count p i - 1
+  pub fetched-count : i + queue-bytes-field ≤ length p → queue-count (fetched p i) i ≡ queue-count p i - 1
   unfolding fetched
-  fetched-count h = getD-set-same (put p (i + 5) (index p i 1)) (i + 6) (queue-count p i - 1) 0 (simp length-set (omega arith))
+  fetched-count h = getD-set-same (with-queue-oldest p i (index p i 1)) (i + queue-count-field) (queue-count p i - 1) 0 (simp length-set (omega arith))
 
   pub fetched-length : queue-length (fetched p i) i ≡ queue-length p i
-  fetched-length = fetched-other (i + 4) (omega arith) (omega arith)
+  fetched-length = fetched-other (i + queue-length-field) (omega arith) (omega arith)
 
   fetched-byte : (j : ℕ) → byte-at (fetched p i) i j ≡ byte-at p i j
   fetched-byte j = byte-at-same p (fetched p i) i j (fetched-other (byte-word i j) (omega arith) (omega arith))
 
-  module _ (R : Ring p i) (inside : i + 8 ≤ length p) where
+  module _ (R : Ring p i) (inside : i + queue-bytes-field ≤ length p) where
     fetched-index : (j : ℕ) → j < queue-length p i → index (fetched p i) i j ≡ index p i (suc j)
     unfolding index
     fetched-index j l = rw (fetched-length, fetched-oldest inside) (round-step (queue-length p i) (queue-oldest p i) j (R .oldest) l)
@@ -154,29 +154,29 @@ module _ (p : List ℕ) (i : ℕ) where
     unfolding sent
     length-sent = simp (length-set, length-with-byte-at)
 
-    pub sent-other : (k : ℕ) → (k ≡ i + 6 → ⊥) → (k ≡ byte-word i (index p i (queue-count p i)) → ⊥) → word (sent p i b) k ≡ word p k
+    pub sent-other : (k : ℕ) → (k ≡ i + queue-count-field → ⊥) → (k ≡ byte-word i (index p i (queue-count p i)) → ⊥) → word (sent p i b) k ≡ word p k
     unfolding sent
-    sent-other k m n = getD-set-other (with-byte-at p i behind b) (i + 6) k (queue-count p i + 1) 0 m ∙ with-byte-at-other p i behind b k n
+    sent-other k m n = getD-set-other (with-byte-at p i behind b) (i + queue-count-field) k (queue-count p i + 1) 0 m ∙ with-byte-at-other p i behind b k n
 
-    pub sent-count : i + 8 ≤ length p → queue-count (sent p i b) i ≡ queue-count p i + 1
+    pub sent-count : i + queue-bytes-field ≤ length p → queue-count (sent p i b) i ≡ queue-count p i + 1
     unfolding sent
-    sent-count h = getD-set-same (with-byte-at p i behind b) (i + 6) (queue-count p i + 1) 0 (rw (length-with-byte-at p i behind b) (omega arith))
+    sent-count h = getD-set-same (with-byte-at p i behind b) (i + queue-count-field) (queue-count p i + 1) 0 (rw (length-with-byte-at p i behind b) (omega arith))
 
     pub sent-length : queue-length (sent p i b) i ≡ queue-length p i
-    sent-length = sent-other (i + 4) (omega arith) (omega arith)
+    sent-length = sent-other (i + queue-length-field) (omega arith) (omega arith)
 
     pub sent-oldest : queue-oldest (sent p i b) i ≡ queue-oldest p i
-    sent-oldest = sent-other (i + 5) (omega arith) (omega arith)
+    sent-oldest = sent-other (i + queue-oldest-field) (omega arith) (omega arith)
 
     sent-byte : (j : ℕ) → byte-at (sent p i b) i j ≡ byte-at (with-byte-at p i behind b) i j
     unfolding sent
-    sent-byte j = byte-at-same (with-byte-at p i behind b) (sent p i b) i j (getD-set-other (with-byte-at p i behind b) (i + 6) (byte-word i j) (queue-count p i + 1) 0 (omega arith))
+    sent-byte j = byte-at-same (with-byte-at p i behind b) (sent p i b) i j (getD-set-other (with-byte-at p i behind b) (i + queue-count-field) (byte-word i j) (queue-count p i + 1) 0 (omega arith))
 
     sent-index : (j : ℕ) → index (sent p i b) i j ≡ index p i j
     unfolding index
     sent-index j = rw (sent-length, sent-oldest)
 
-    module _ (R : Ring p i) (inside : i + 8 + (queue-length p i + 3) / 4 ≤ length p) (small : b < 256) where
+    module _ (R : Ring p i) (inside : i + queue-bytes-field + (queue-length p i + 3) / 4 ≤ length p) (small : b < 256) where
       -- sending appends
       pub sending-appends : full p i ≡ false → contents (sent p i b) i ≡ contents p i ++ (b ∷ [])
       unfolding contents
@@ -203,12 +203,12 @@ unfolding index
 index-same p q i j a b = rw (a, b)
 
 -- a queue whose longwords stay is the same list
-pub contents-same : (p q : List ℕ) (i : ℕ) → Ring p i → ((k : ℕ) → i + 4 ≤ k → k < i + 8 + (queue-length p i + 3) / 4 → word q k ≡ word p k) → contents q i ≡ contents p i
+pub contents-same : (p q : List ℕ) (i : ℕ) → Ring p i → ((k : ℕ) → i + queue-length-field ≤ k → k < i + queue-bytes-field + (queue-length p i + 3) / 4 → word q k ≡ word p k) → contents q i ≡ contents p i
 unfolding contents
 contents-same p q i R s =
     let h = R .held in
-    rw (s (i + 6) (omega arith) (omega arith))
+    rw (s (i + queue-count-field) (omega arith) (omega arith))
     (listed-same (λ (j : ℕ). byte-at q i (index q i j)) (λ (j : ℕ). byte-at p i (index p i j)) (queue-count p i)
     (λ j l.
-    ap (byte-at q i) (index-same p q i j (s (i + 4) (omega arith) (omega arith)) (s (i + 5) (omega arith) (omega arith)))
+    ap (byte-at q i) (index-same p q i j (s (i + queue-length-field) (omega arith) (omega arith)) (s (i + queue-oldest-field) (omega arith) (omega arith)))
     ∙ (let x = index-below p i R j (omega arith) in byte-at-same p q i (index p i j) (s (byte-word i (index p i j)) (omega arith) (omega arith)))))

@@ -2,6 +2,7 @@
 use Prim.Native.Nat.{ℕ, _+_, _-_, _*_, _/_, _%_, _^_}
 use mathlib.Core.List.{List}
 use Rattle.words.specs.Words.{word, put}
+use Rattle.blocks.specs.Header.{queue-bytes-field}
 
 -- what a 1 in byte j of a queue is worth within its longword
 unfoldable pub weight : ℕ → ℕ
@@ -17,7 +18,7 @@ with-byte-in w v b = w - byte-in w v * v + b * v
 
 -- the longword in which byte j of the queue at i stands: those of the header and the first four of its room come before
 abbrev pub byte-word : ℕ → ℕ → ℕ
-byte-word i j = i + 8 + j / 4
+byte-word i j = i + queue-bytes-field + j / 4
 
 -- byte j of the queue at i
 unfoldable pub byte-at : List ℕ → ℕ → ℕ → ℕ

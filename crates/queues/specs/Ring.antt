@@ -3,8 +3,7 @@ use Prim.Native.Nat.{ℕ, zero, suc, _+_, _-_, _≤_, _<_}
 use mathlib.Core.Bool.{Bool, cond}
 use mathlib.Core.List.{List, [], _∷_, _++_}
 use lib.Dec.{leb, ltb}
-use Rattle.words.specs.Words.{put}
-use Rattle.blocks.specs.Header.{queue-length, queue-oldest, queue-count}
+use Rattle.blocks.specs.Header.{queue-length, queue-oldest, queue-count, with-queue-oldest, with-queue-count}
 use Rattle.areas.specs.Rules.{longest-queue}
 use Rattle.queues.specs.Bytes.{byte-at, with-byte-at}
 
@@ -36,11 +35,11 @@ oldest-byte p i = byte-at p i (queue-oldest p i)
 
 -- "takes the oldest: the byte stays, the index steps up, round at n"
 unfoldable pub fetched : List ℕ → ℕ → List ℕ
-fetched p i = put (put p (i + 5) (index p i 1)) (i + 6) (queue-count p i - 1)
+fetched p i = with-queue-count (with-queue-oldest p i (index p i 1)) i (queue-count p i - 1)
 
 -- "writes behind the newest"
 unfoldable pub sent : List ℕ → ℕ → ℕ → List ℕ
-sent p i b = put (with-byte-at p i (index p i (queue-count p i)) b) (i + 6) (queue-count p i + 1)
+sent p i b = with-queue-count (with-byte-at p i (index p i (queue-count p i)) b) i (queue-count p i + 1)
 
 -- f 0, f 1, .., c of them
 abbrev pub listed : (ℕ → ℕ) → ℕ → List ℕ

@@ -9,7 +9,7 @@ use native.Mathlib.Omega.{arith}
 use Rattle.words.specs.Words.{word}
 use Rattle.picture.specs.Numbers.{position}
 use Rattle.picture.specs.declared.Table.{Table}
-use Rattle.blocks.specs.Header.{size, queue-length, queue-oldest, queue-count, queue-zero}
+use Rattle.blocks.specs.Header.{queue-oldest-field, queue-zero-field, queue-bytes-field, size, queue-length, queue-oldest, queue-count, queue-zero}
 use Rattle.headers.specs.Area.{Outside}
 use Rattle.sound.specs.Sound.{sound}
 use Rattle.facts.proofs.Sound.{Queue, Sound}
@@ -30,10 +30,10 @@ use Rattle.queues_kept.proofs.Ways.{pending-ways, fetch-ways, send-ways
 
 module _ (p : List ℕ) (k i : ℕ) (H : Held p k i) where
   -- the queue's longwords lie in the picture
-  pub lies : i + 8 + (queue-length p i + 3) / 4 ≤ length p
+  pub lies : i + queue-bytes-field + (queue-length p i + 3) / 4 ≤ length p
   lies = let a = H .room in let b = H .inside in let c = H .short in omega arith
 
-  pub header-lies : i + 8 ≤ length p
+  pub header-lies : i + queue-bytes-field ≤ length p
   header-lies = let l = lies in omega arith
 
   -- a fetch writes the queue's room
@@ -44,14 +44,14 @@ module _ (p : List ℕ) (k i : ℕ) (H : Held p k i) where
       let z = fetched-length p i in
       record {
         long = length-fetched p i;
-        other = λ j h. let r = H .room in fetched-other p i j (⊎-elim (λ (l : j < i + 5). λ e. omega arith) (λ (l : i + size p i / 4 ≤ j). λ e. omega arith) h) (⊎-elim (λ (l : j < i + 5). λ e. omega arith) (λ (l : i + size p i / 4 ≤ j). λ e. omega arith) h);
+        other = λ j h. let r = H .room in fetched-other p i j (⊎-elim (λ (l : j < i + queue-oldest-field). λ e. omega arith) (λ (l : i + size p i / 4 ≤ j). λ e. omega arith) h) (⊎-elim (λ (l : j < i + queue-oldest-field). λ e. omega arith) (λ (l : i + size p i / 4 ≤ j). λ e. omega arith) h);
         queue = record {
           least = rw z (u .least);
           most = R .most;
           long = rw (fetched-other p i i (omega arith) (omega arith), z) (u .long);
           oldest = R .oldest;
           held = R .held;
-          nought = fetched-other p i (i + 7) (omega arith) (omega arith) ∙ u .nought;
+          nought = fetched-other p i (i + queue-zero-field) (omega arith) (omega arith) ∙ u .nought;
         };
       }
 
@@ -66,14 +66,14 @@ module _ (p : List ℕ) (k i : ℕ) (H : Held p k i) where
       let r = H .room in
       record {
         long = length-sent p i b;
-        other = λ j h. sent-other p i b j (⊎-elim (λ (y : j < i + 5). λ e. omega arith) (λ (y : i + size p i / 4 ≤ j). λ e. omega arith) h) (⊎-elim (λ (y : j < i + 5). λ e. omega arith) (λ (y : i + size p i / 4 ≤ j). λ e. omega arith) h);
+        other = λ j h. sent-other p i b j (⊎-elim (λ (y : j < i + queue-oldest-field). λ e. omega arith) (λ (y : i + size p i / 4 ≤ j). λ e. omega arith) h) (⊎-elim (λ (y : j < i + queue-oldest-field). λ e. omega arith) (λ (y : i + size p i / 4 ≤ j). λ e. omega arith) h);
         queue = record {
           least = rw z (u .least);
           most = R .most;
           long = rw (sent-other p i b i (omega arith) (omega arith), z) (u .long);
           oldest = R .oldest;
           held = R .held;
-          nought = sent-other p i b (i + 7) (omega arith) (omega arith) ∙ u .nought;
+          nought = sent-other p i b (i + queue-zero-field) (omega arith) (omega arith) ∙ u .nought;
         };
       }
 

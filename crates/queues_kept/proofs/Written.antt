@@ -15,7 +15,7 @@ use Rattle.picture.specs.declared.Table.{Table}
 use Rattle.picture.specs.declared.Table.the-variants.{Jobs, Channels}
 use Rattle.picture.specs.declared.Area.{Area}
 use Rattle.picture.specs.declared.Area.the-variants.{Heap, Transient}
-use Rattle.blocks.specs.Header.{size, kind, queue-kind, job-kind, holder, start, queue-length, queue-oldest, queue-count, queue-zero, rounded}
+use Rattle.blocks.specs.Header.{header-width, queue-length-field, queue-oldest-field, queue-count-field, queue-zero-field, size, kind, queue-kind, job-kind, holder, start, queue-length, queue-oldest, queue-count, queue-zero, rounded}
 use Rattle.blocks.specs.Walk.{good, next, starts, blocks}
 use Rattle.blocks.proofs.Walk.{Good, is-good, next-good}
 use Rattle.blocks.proofs.Starts.{starts-in, next-same}
@@ -31,7 +31,7 @@ use Rattle.queues_kept.proofs.Walk.{walk-same, blocks-apart}
 -- q is p with the room of the queue at i written, but for its length
 pub record Written (p q : List ℕ) (i : ℕ) : Type 0 where
   pub long : length q ≡ length p
-  pub other : (k : ℕ) → Outside (i + 5) (i + size p i / 4) k → word q k ≡ word p k
+  pub other : (k : ℕ) → Outside (i + queue-oldest-field) (i + size p i / 4) k → word q k ≡ word p k
   pub queue : Queue q i
 
 module _ (p q : List ℕ) (k i : ℕ) (S : Sound p) (H : Held p k i) (W : Written p q i) where
@@ -56,7 +56,7 @@ module _ (p q : List ℕ) (k i : ℕ) (S : Sound p) (H : Held p k i) (W : Writte
       (lt-or-ge j i)
 
   -- every header
-  header-same : (j f : ℕ) → In j (blocks p Heap) → f < 4 → word q (j + f) ≡ word p (j + f)
+  header-same : (j f : ℕ) → In j (blocks p Heap) → f < header-width → word q (j + f) ≡ word p (j + f)
   header-same j f m l = ⊎-elim
       (λ (e : j ≡ i). W .other (j + f) (inl (omega arith)))
       (λ n. let g = is-good p j (upto p Heap) (S .tiled Heap .whole j m) .least in block-same j m n (j + f) (omega arith) (omega arith))
@@ -81,10 +81,10 @@ module _ (p q : List ℕ) (k i : ℕ) (S : Sound p) (H : Held p k i) (W : Writte
       (λ (n : j ≡ i → ⊥).
       let u = S .tiled Heap .queue j m z in
       let l : 8 ≤ size p j / 4 = let y = u .long in let o = u .least in rw y (omega arith) in
-      let a : queue-length q j ≡ queue-length p j = block-same j m n (j + 4) (omega arith) (omega arith) in
-      let b : queue-oldest q j ≡ queue-oldest p j = block-same j m n (j + 5) (omega arith) (omega arith) in
-      let c : queue-count q j ≡ queue-count p j = block-same j m n (j + 6) (omega arith) (omega arith) in
-      let d : queue-zero q j ≡ queue-zero p j = block-same j m n (j + 7) (omega arith) (omega arith) in
+      let a : queue-length q j ≡ queue-length p j = block-same j m n (j + queue-length-field) (omega arith) (omega arith) in
+      let b : queue-oldest q j ≡ queue-oldest p j = block-same j m n (j + queue-oldest-field) (omega arith) (omega arith) in
+      let c : queue-count q j ≡ queue-count p j = block-same j m n (j + queue-count-field) (omega arith) (omega arith) in
+      let d : queue-zero q j ≡ queue-zero p j = block-same j m n (j + queue-zero-field) (omega arith) (omega arith) in
       record { least = rw a (u .least); most = rw a (u .most); long = rw (size-same j m, a) (u .long); oldest = rw (b, a) (u .oldest); held = rw (c, a) (u .held); nought = rw d (u .nought) })
       (same-or-not j i)
 

@@ -10,7 +10,7 @@ ghost use Prim.Native.Nat.{_<_, _≤_};
 ghost use lib.Dec.{eqb};
 ghost use lib.ListN.{length};
 ghost use Rattle.words.specs.Each.{every};
-ghost use Rattle.picture.specs.Layout.{positions, heap-base as heapBase};
+ghost use Rattle.picture.specs.Layout.{positions, width, heap-base as heapBase};
 ghost use Rattle.picture.specs.Records.{field, number, used};
 ghost use Rattle.picture.specs.Numbers.{tag};
 ghost use Rattle.picture.specs.declared.Table.the-variants.{Channels};
@@ -22,12 +22,12 @@ pub fn tag_at(p: &[u32], t: Table, k: usize) -> u32
     requires { ⌜ (heapBase ≤ length (now p)) × (k < positions t) ⌝ }
     ensures { λ r. ⌜ r ≡ tag (number (now (p .entry)) t k) ⌝ }
 {
-    field_of(p, t, k, picture::NUMBER) / 65536
+    picture::tag_of(field_of(p, t, k, picture::NUMBER))
 }
 
 // The record of a channel in use ends in 1.
 pub fn ends_in_one(p: &[u32], k: usize) -> bool
-    requires { ⌜ (heapBase ≤ length (now p)) × ((k < 32) × (used (now p) Channels k ≡ true)) ⌝ }
+    requires { ⌜ (heapBase ≤ length (now p)) × ((k < positions Channels) × (used (now p) Channels k ≡ true)) ⌝ }
     ensures { λ r. ⌜ r ≡ endsInOne (now (p .entry)) k ⌝ }
 {
     field_of(p, Table::Channels, k, picture::ENDING) == 1
@@ -35,8 +35,8 @@ pub fn ends_in_one(p: &[u32], k: usize) -> bool
 
 // Every field of a channel's record is zero.
 pub fn is_channel_zero(p: &[u32], k: usize) -> bool
-    requires { ⌜ (heapBase ≤ length (now p)) × (k < 32) ⌝ }
-    ensures { λ r. ⌜ r ≡ every (λ f. eqb (field (now (p .entry)) Channels k f) 0) 4 ⌝ }
+    requires { ⌜ (heapBase ≤ length (now p)) × (k < positions Channels) ⌝ }
+    ensures { λ r. ⌜ r ≡ every (λ f. eqb (field (now (p .entry)) Channels k f) 0) (width Channels) ⌝ }
 {
     (field_of(p, Table::Channels, k, picture::NUMBER) == 0)
         & (field_of(p, Table::Channels, k, picture::OWNER) == 0)
@@ -49,7 +49,7 @@ pub fn is_positioned(p: &[u32], t: Table, k: usize) -> bool
     requires { ⌜ (heapBase ≤ length (now p)) × ((k < positions t) × (used (now p) t k ≡ true)) ⌝ }
     ensures { λ r. ⌜ r ≡ positioned (now (p .entry)) t k ⌝ }
 {
-    (field_of(p, t, k, picture::NUMBER) % 65536) as usize == k
+    picture::position_of(field_of(p, t, k, picture::NUMBER)) == k
 }
 
 // A tag in use is 1 to 32,767, but for job 0.

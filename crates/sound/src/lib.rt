@@ -69,7 +69,7 @@ pub fn current_ready(p: &[u32]) -> bool
     if !picture::is_live(p, Table::Jobs, n) {
         return false;
     }
-    picture::is_ready(p, (n % 65536) as usize)
+    picture::is_ready(p, picture::position_of(n))
 }
 
 // The rules of the picture as a whole.

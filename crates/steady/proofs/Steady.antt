@@ -10,7 +10,7 @@ use lib.ListN.{length}
 use lib.Dec.{leb, eqb}
 use Rattle.words.specs.Words.{word}
 use Rattle.picture.specs.Layout.{nobody, size-word, current-word, last-word, heap-word, zero-word, heap-base, mask-word, positions, width, first-record, from, upto}
-use Rattle.picture.specs.Records.{slot, field, number, owner, base, priority, accumulated, timeout, waited-for, ending, used, ready}
+use Rattle.picture.specs.Records.{slot, field, number, owner, base, priority, accumulated, timeout, waited-for, ending, used, ready, base-field, number-field, owner-field, accumulated-field, ending-field, priority-field, timeout-field, wait-field}
 use Rattle.picture.specs.Numbers.{tag, position, live}
 use Rattle.picture.proofs.Records.{used-below}
 use Rattle.picture.specs.declared.Table.{Table}
@@ -55,12 +55,12 @@ Alike p q k = (f : ℕ) → f < width Jobs → field q Jobs k f ≡ field p Jobs
 
 module _ (p q : List ℕ) (s : Steady p q) where
   mask : (t : Table) → word q (mask-word t) ≡ word p (mask-word t)
-  mask Jobs = s .before 5 (omega arith) (λ e. omega arith)
-  mask Channels = s .before 6 (omega arith) (λ e. omega arith)
+  mask Jobs = s .before (mask-word Jobs) (omega arith) (λ e. omega arith)
+  mask Channels = s .before (mask-word Channels) (omega arith) (λ e. omega arith)
 
   last : (t : Table) → word q (last-word t) ≡ word p (last-word t)
-  last Jobs = s .before 2 (omega arith) (λ e. omega arith)
-  last Channels = s .before 3 (omega arith) (λ e. omega arith)
+  last Jobs = s .before (last-word Jobs) (omega arith) (λ e. omega arith)
+  last Channels = s .before (last-word Channels) (omega arith) (λ e. omega arith)
 
   pub steady-size : word q size-word ≡ word p size-word
   steady-size = s .before size-word (omega arith) (λ e. omega arith)
@@ -77,7 +77,7 @@ module _ (p q : List ℕ) (s : Steady p q) where
   steady-used t k = used-same p q t (mask t) k
 
   pub steady-live : (t : Table) (n : ℕ) → live q t n ≡ live p t n
-  steady-live t n = live-same p q t (mask t) (λ k l. steady-field t k 0 l (omega arith)) n
+  steady-live t n = live-same p q t (mask t) (λ k l. steady-field t k number-field l (omega arith)) n
 
   lives : Lives p q
   lives n h = steady-live Jobs n ∙ h
@@ -86,8 +86,8 @@ module _ (p q : List ℕ) (s : Steady p q) where
   entries t = record {
     mask = mask t;
     last = last t;
-    numbers = λ k l. steady-field t k 0 l (omega arith);
-    owners = λ k l. steady-field t k 1 l (omega arith);
+    numbers = λ k l. steady-field t k number-field l (omega arith);
+    owners = λ k l. steady-field t k owner-field l (omega arith);
   }
 
   heap-on : (i : ℕ) → heap-base ≤ i → word q i ≡ word p i
@@ -99,7 +99,7 @@ module _ (p q : List ℕ) (s : Steady p q) where
 
   -- the last tags given and the live numbers are the same
   pub steady-ages : (t : Table) → Ages p q t
-  steady-ages t = ages-same p q t (last t) (mask t) (λ k l. steady-field t k 0 l (omega arith))
+  steady-ages t = ages-same p q t (last t) (mask t) (λ k l. steady-field t k number-field l (omega arith))
 
   -- a job whose wait and timeout are the same waits as well as it did
   pub waits-kept : (k : ℕ) → k < positions Jobs → waited-for q k ≡ waited-for p k → timeout q k ≡ timeout p k → (waited-for p k ≡ 0) ⊎ Waits p k → (waited-for q k ≡ 0) ⊎ Waits q k
@@ -107,7 +107,7 @@ module _ (p q : List ℕ) (s : Steady p q) where
       (λ e. inl (w ∙ e))
       (λ (x : Waits p k). inr (record {
         alive = rw w (lives (waited-for p k) (x .alive));
-        other = λ e. x .other (sym w ∙ e ∙ s .fields k 0 l (omega arith));
+        other = λ e. x .other (sym w ∙ e ∙ s .fields k number-field l (omega arith));
         forever = t ∙ x .forever;
       }))
 
@@ -115,11 +115,11 @@ module _ (p q : List ℕ) (s : Steady p q) where
   pub alike-turning : (k : ℕ) → k < positions Jobs → Alike p q k → Turning p k → Turning q k
   unfolding ready
   alike-turning k l a T = record {
-    urgent = rw (a 3 (omega arith)) (T .urgent);
-    gained = rw (a 4 (omega arith)) (T .gained);
-    frames = rw (a 5 (omega arith)) (T .frames);
-    waits = waits-kept k l (a 6 (omega arith)) (a 5 (omega arith)) (T .waits);
-    idle = rw (a 3 (omega arith), a 4 (omega arith), a 5 (omega arith)) (T .idle);
+    urgent = rw (a priority-field (omega arith)) (T .urgent);
+    gained = rw (a accumulated-field (omega arith)) (T .gained);
+    frames = rw (a timeout-field (omega arith)) (T .frames);
+    waits = waits-kept k l (a wait-field (omega arith)) (a timeout-field (omega arith)) (T .waits);
+    idle = rw (a priority-field (omega arith), a accumulated-field (omega arith), a timeout-field (omega arith)) (T .idle);
   }
 
   module _ (S : Sound p) where
@@ -155,9 +155,9 @@ module _ (p q : List ℕ) (s : Steady p q) where
         record {
           entries = entries-same p q Jobs (entries Jobs) lives jobs-blank (J .entries);
           zero-lives = steady-used Jobs 0 ∙ J .zero-lives;
-          zero-number = s .fields 0 0 (omega arith) (omega arith) ∙ J .zero-number;
-          zero-base = s .fields 0 2 (omega arith) (omega arith) ∙ J .zero-base;
-          zero-unowned = s .fields 0 1 (omega arith) (omega arith) ∙ J .zero-unowned;
+          zero-number = s .fields 0 number-field (omega arith) (omega arith) ∙ J .zero-number;
+          zero-base = s .fields 0 base-field (omega arith) (omega arith) ∙ J .zero-base;
+          zero-unowned = s .fields 0 owner-field (omega arith) (omega arith) ∙ J .zero-unowned;
           urgent = λ k l. L .each k l .urgent;
           gained = λ k l. L .each k l .gained;
           frames = λ k l. L .each k l .frames;
@@ -167,12 +167,12 @@ module _ (p q : List ℕ) (s : Steady p q) where
         }
       where
         older : (k : ℕ) → used p Jobs k ≡ true → (owner q Jobs k ≡ nobody) ⊎ (tag (owner q Jobs k) < tag (number q Jobs k))
-        older k u = let l = used-below p Jobs k u in rw (s .fields k 0 l (omega arith), s .fields k 1 l (omega arith)) (S .jobs .older k u)
+        older k u = let l = used-below p Jobs k u in rw (s .fields k number-field l (omega arith), s .fields k owner-field l (omega arith)) (S .jobs .older k u)
 
     channels : Channels-fine q
     channels = record {
       entries = entries-same p q Channels (entries Channels) lives channels-blank (S .channels .entries);
-      one = λ k u. s .after (slot Channels k + 3) (omega arith) ∙ S .channels .one k (was-used Channels k u);
+      one = λ k u. s .after (slot Channels k + ending-field) (omega arith) ∙ S .channels .one k (was-used Channels k u);
     }
 
     matched : (t : Table) → Matched q t
@@ -182,8 +182,8 @@ module _ (p q : List ℕ) (s : Steady p q) where
         matched-same p q t
         (record {
           mask = mask t;
-          owners = λ k l. steady-field t k 1 l (omega arith);
-          bases = λ k l. steady-field t k 2 l (omega arith);
+          owners = λ k l. steady-field t k owner-field l (omega arith);
+          bases = λ k l. steady-field t k base-field l (omega arith);
           walk = blocks-same p q (area-of t) a;
           kinds = kind-same p q (area-of t) a T;
           holders = holder-same p q (area-of t) a T;

@@ -11,10 +11,10 @@ use lib.Seq.{getD-set-same, getD-set-other}
 use Rattle.words.specs.Words.{word, put}
 use Rattle.words.proofs.Tests.{false-true}
 use Rattle.picture.specs.Layout.{nobody, current-word, heap-base, positions, width, first-record}
-use Rattle.picture.specs.Records.{slot, field, used}
+use Rattle.picture.specs.Records.{slot, field, used, with-field}
 use Rattle.picture.specs.declared.Table.the-variants.{Jobs, Channels}
 use Rattle.picture.proofs.Records.{used-below}
-use Rattle.calls.specs.Writes.{with-field, with-nobody}
+use Rattle.calls.specs.Writes.{with-nobody}
 use Rattle.facts.proofs.Sound.{Sizes, Current, Sound}
 use Rattle.steady.proofs.Steady.{first-turning, Steady, Turning, Alike, alike-turning, steady-sound-by, steady-still, steady-then, steady-used}
 

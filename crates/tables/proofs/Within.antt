@@ -1,14 +1,9 @@
--- Fields that both tables have, and the longwords of the masks and of the last tags, lie before the heap.
+-- The longwords of the masks and of the last tags lie before the heap.
 use Prim.Native.Nat.{ℕ, _<_, _≤_}
 use native.Mathlib.Omega.{arith}
-use Rattle.picture.specs.Layout.{width, mask-word, last-word, heap-base}
+use Rattle.picture.specs.Layout.{mask-word, last-word, heap-base}
 use Rattle.picture.specs.declared.Table.{Table}
 use Rattle.picture.specs.declared.Table.the-variants.{Jobs, Channels}
-
--- the first four fields are those of either table
-pub shared : (t : Table) (f : ℕ) → f < 4 → f < width t
-shared Jobs f l = omega arith
-shared Channels f l = omega arith
 
 pub mask-before : (t : Table) (n : ℕ) → heap-base ≤ n → mask-word t < n
 mask-before Jobs n l = omega arith

@@ -7,6 +7,7 @@ ghost use Rattle.words.specs.Words.{word, put};
 ghost use Rattle.picture.specs.Layout.{positions, width, heap-base as heapBase};
 ghost use Rattle.picture.specs.Records.{field, used, ready};
 ghost use Rattle.picture.specs.Numbers.{live};
+ghost use Rattle.picture.specs.declared.Table.the-variants.{Jobs};
 
 // The longword at i, which lies within.
 pub fn word_at(p: &[u32], i: usize) -> u32
@@ -48,7 +49,7 @@ pub fn is_live(p: &[u32], t: Table, n: u32) -> bool
     requires { ⌜ heapBase ≤ length (now p) ⌝ }
     ensures { λ r. ⌜ r ≡ live (now (p .entry)) t n ⌝ }
 {
-    let k = (n % 65536) as usize;
+    let k = picture::position_of(n);
     if !is_used(p, t, k) {
         return false;
     }
@@ -57,7 +58,7 @@ pub fn is_live(p: &[u32], t: Table, n: u32) -> bool
 
 // The job at position k is ready.
 pub fn is_ready(p: &[u32], k: usize) -> bool
-    requires { ⌜ (heapBase ≤ length (now p)) × (k < 32) ⌝ }
+    requires { ⌜ (heapBase ≤ length (now p)) × (k < positions Jobs) ⌝ }
     ensures { λ r. ⌜ r ≡ ready (now (p .entry)) k ⌝ }
 {
     (1 <= field_of(p, Table::Jobs, k, picture::PRIORITY))

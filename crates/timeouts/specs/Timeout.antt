@@ -1,10 +1,11 @@
 -- Timeouts in registers: "timeouts as signed with -1 without end, words of registers read as signed halves".
-use Prim.Native.Nat.{ℕ, _%_}
+use Prim.Native.Nat.{ℕ}
 use mathlib.Core.Bool.{cond}
 use lib.Dec.{leb, eqb}
 use lib.IntN.{ℤ, pos, negsuc}
 use mir.Syntax.{w16}
 use mir.Val.{toZ}
+use Rattle.words.specs.Words.{low-word}
 use Rattle.picture.specs.Layout.{nobody}
 use Rattle.picture.specs.Layout.{greatest-timeout}
 use Rattle.timeouts.specs.declared.Timeout.{Timeout}
@@ -17,7 +18,7 @@ timeout-of (negsuc n) = cond (eqb n 0) Endless Bad
 
 -- a register's low word, read as a signed half
 abbrev pub low-half : ℕ → ℤ
-low-half register = toZ w16 (register % 65536)
+low-half register = toZ w16 (low-word register)
 
 -- the timeout in a register
 abbrev pub timeout-in : ℕ → Timeout

@@ -6,6 +6,7 @@ ghost use mathlib.Core.Path.{_≡_};
 ghost use mathlib.Core.Bool.{cond};
 ghost use Prim.Native.Nat.{_+_, _^_, _<_};
 ghost use Rattle.picture.specs.Layout.{positions};
+ghost use Rattle.picture.specs.Numbers.{tag-weight as tagWeight};
 ghost use Rattle.picture.specs.declared.Table.the-variants.{Jobs};
 ghost use Rattle.tree.specs.Tree.{climbs, tree, in-tree as inTree};
 
@@ -22,7 +23,7 @@ pub fn with_bit(mask: u32, k: usize, set: bool) -> u32
 
 // From position k one reaches position t by at most as many owners as there are positions.
 pub fn climbs_to(p: &[u32], t: usize, k: usize) -> bool
-    requires { ⌜ k < 65536 ⌝ }
+    requires { ⌜ k < tagWeight ⌝ }
     ensures { λ r. ⌜ r ≡ climbs (positions Jobs) (now (p .entry)) t k ⌝ }
 {
     let mut j = k;
@@ -38,7 +39,7 @@ pub fn climbs_to(p: &[u32], t: usize, k: usize) -> bool
         if owner == picture::NOBODY {
             return false;
         }
-        j = (owner % 65536) as usize;
+        j = picture::position_of(owner);
         n -= 1;
     }
     j == t
@@ -46,7 +47,7 @@ pub fn climbs_to(p: &[u32], t: usize, k: usize) -> bool
 
 // The job at position k is live and in the tree of the job at position t.
 pub fn is_in_tree(p: &[u32], t: usize, k: usize) -> bool
-    requires { ⌜ k < 65536 ⌝ }
+    requires { ⌜ k < tagWeight ⌝ }
     ensures { λ r. ⌜ r ≡ inTree (now (p .entry)) t k ⌝ }
 {
     if picture::is_used(p, Table::Jobs, k) {

@@ -11,7 +11,7 @@ use lib.Seq.{getD-set-other}
 use Rattle.words.specs.Words.{word}
 use Rattle.words.proofs.Tests.{false-true, lt-or-ge}
 use Rattle.picture.specs.Layout.{nobody, current-word, positions, width, first-record}
-use Rattle.picture.specs.Records.{slot, field, number, priority, accumulated, timeout, waited-for, delivered, used, ready}
+use Rattle.picture.specs.Records.{slot, field, number, priority, accumulated, timeout, waited-for, delivered, used, ready, priority-field, key-field, wait-field, accumulated-field}
 use Rattle.picture.specs.Numbers.{position, live}
 use Rattle.picture.specs.declared.Table.{Table}
 use Rattle.picture.specs.declared.Table.the-variants.{Jobs, Channels}
@@ -39,7 +39,7 @@ sound-is-orderly p S = record {
 
 -- a ready job's position is in use
 pub ready-used : (p : List ℕ) → Sound p → (k : ℕ) → k < positions Jobs → ready p k ≡ true → used p Jobs k ≡ true
-ready-used p S k l r = ready-is-used p k (λ u. S .jobs .entries .unused k 3 l (omega arith) u) r
+ready-used p S k l r = ready-is-used p k (λ u. S .jobs .entries .unused k priority-field l (omega arith) u) r
 
 module _ (p : List ℕ) (S : Sound p) where
   orderly : Orderly p
@@ -60,10 +60,10 @@ module _ (p : List ℕ) (S : Sound p) where
       (chosen-is-who-the-rule-picks p)
 
   unused-kept : (k f : ℕ) → k < positions Jobs → f < width Jobs → used p Jobs k ≡ false → field (picked p) Jobs k f ≡ field p Jobs k f
-  unused-kept k f l m u = by-cases (ℕ-discrete f 4)
-      (λ (e : f ≡ 4). subst (λ (g : ℕ). field (picked p) Jobs k g ≡ field p Jobs k g) (sym e) (pick-accumulates p (orderly .whole) k l ∙ gains-nothing))
-      (λ a. by-cases (ℕ-discrete f 7)
-      (λ (e : f ≡ 7). subst (λ (g : ℕ). field (picked p) Jobs k g ≡ field p Jobs k g) (sym e) key-stays)
+  unused-kept k f l m u = by-cases (ℕ-discrete f accumulated-field)
+      (λ (e : f ≡ accumulated-field). subst (λ (g : ℕ). field (picked p) Jobs k g ≡ field p Jobs k g) (sym e) (pick-accumulates p (orderly .whole) k l ∙ gains-nothing))
+      (λ a. by-cases (ℕ-discrete f key-field)
+      (λ (e : f ≡ key-field). subst (λ (g : ℕ). field (picked p) Jobs k g ≡ field p Jobs k g) (sym e) key-stays)
       (λ d. pick-keeps-fields p k f m a d))
     where
       not-chosen : chosen-job p < positions Jobs → k ≢ chosen-job p
@@ -77,7 +77,7 @@ module _ (p : List ℕ) (S : Sound p) where
 
       key-stays : delivered (picked p) k ≡ delivered p k
       key-stays = ⊎-elim
-          (λ w. ap (λ (q : List ℕ). delivered q k) (nobody-picked-leaves p (w .0)) ∙ getD-set-other p current-word (slot Jobs k + 7) nobody 0 (λ e. omega arith))
+          (λ w. ap (λ (q : List ℕ). delivered q k) (nobody-picked-leaves p (w .0)) ∙ getD-set-other p current-word (slot Jobs k + key-field) nobody 0 (λ e. omega arith))
           (λ (c : Chosen p (positions Jobs) (chosen-job p)). pick-gives-a-turn p (orderly .whole) (c .inside) .other-keys k other)
           (chosen-is-who-the-rule-picks p)
 
@@ -95,12 +95,12 @@ module _ (p : List ℕ) (S : Sound p) where
 
   waits-kept : (k : ℕ) → k < positions Jobs → (waited-for p k ≡ 0) ⊎ Waits p k → (waited-for (picked p) k ≡ 0) ⊎ Waits (picked p) k
   waits-kept k l w =
-      let six = same-field k 6 (omega arith) (λ e. omega arith) (λ e. omega arith) in
+      let same-wait = same-field k wait-field (omega arith) (λ e. omega arith) (λ e. omega arith) in
       ⊎-elim
-      (λ e. inl (six ∙ e))
+      (λ e. inl (same-wait ∙ e))
       (λ (v : Waits p k). inr (record {
-        alive = rw six (steady-live p (picked p) pick-is-steady Jobs (waited-for p k) ∙ v .alive);
-        other = λ e. v .other (sym six ∙ e ∙ pick-keeps-the-number p k);
+        alive = rw same-wait (steady-live p (picked p) pick-is-steady Jobs (waited-for p k) ∙ v .alive);
+        other = λ e. v .other (sym same-wait ∙ e ∙ pick-keeps-the-number p k);
         forever = pick-keeps-the-timeout p k ∙ v .forever;
       }))
       w

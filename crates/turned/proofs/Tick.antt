@@ -9,8 +9,8 @@ use native.Mathlib.Decide.{ℕ-discrete}
 use lib.ListN.{length}
 use Rattle.words.specs.Words.{word}
 use Rattle.words.proofs.Tests.{false-true}
-use Rattle.picture.specs.Layout.{nobody, current-word, positions, width, first-record}
-use Rattle.picture.specs.Records.{slot, field, number, priority, accumulated, timeout, waited-for, used, ready}
+use Rattle.picture.specs.Layout.{nobody, current-word, positions, width, first-record, greatest-timeout}
+use Rattle.picture.specs.Records.{slot, field, number, priority, accumulated, timeout, waited-for, used, ready, timeout-field, wait-field}
 use Rattle.picture.specs.Numbers.{position, live}
 use Rattle.picture.specs.declared.Table.{Table}
 use Rattle.picture.specs.declared.Table.the-variants.{Jobs, Channels}
@@ -35,8 +35,8 @@ module _ (p : List ℕ) (S : Sound p) where
   falls k l = tick-lets-timeouts-fall p (orderly .whole) .falls k l
 
   unused-kept : (k f : ℕ) → k < positions Jobs → f < width Jobs → used p Jobs k ≡ false → field (ticked p) Jobs k f ≡ field p Jobs k f
-  unused-kept k f l m u = by-cases (ℕ-discrete f 5)
-      (λ (e : f ≡ 5). subst (λ (g : ℕ). field (ticked p) Jobs k g ≡ field p Jobs k g) (sym e) (let z = S .jobs .entries .unused k 5 l (omega arith) u in falls k l ∙ none-stays (timeout p k) (omega arith)))
+  unused-kept k f l m u = by-cases (ℕ-discrete f timeout-field)
+      (λ (e : f ≡ timeout-field). subst (λ (g : ℕ). field (ticked p) Jobs k g ≡ field p Jobs k g) (sym e) (let z = S .jobs .entries .unused k timeout-field l (omega arith) u in falls k l ∙ none-stays (timeout p k) (omega arith)))
       (λ n. tick-keeps-other-fields p k f m n)
 
   pub tick-is-steady : Steady p (ticked p)
@@ -48,20 +48,20 @@ module _ (p : List ℕ) (S : Sound p) where
     after = λ i l. tick-keeps-the-rest p i (omega arith);
   }
 
-  frames : (k : ℕ) → k < positions Jobs → (timeout (ticked p) k ≤ 32767) ⊎ (timeout (ticked p) k ≡ nobody)
+  frames : (k : ℕ) → k < positions Jobs → (timeout (ticked p) k ≤ greatest-timeout) ⊎ (timeout (ticked p) k ≡ nobody)
   frames k l = rw (falls k l) (⊎-elim
-      (λ (e : timeout p k ≤ 32767). inl (fallen-is-no-longer 32767 (timeout p k) (omega arith) e))
+      (λ (e : timeout p k ≤ greatest-timeout). inl (fallen-is-no-longer greatest-timeout (timeout p k) (omega arith) e))
       (λ (e : timeout p k ≡ nobody). inr (negative-stays (timeout p k) (omega arith) ∙ e))
       (S .jobs .frames k l))
 
   waits-kept : (k : ℕ) → k < positions Jobs → (waited-for p k ≡ 0) ⊎ Waits p k → (waited-for (ticked p) k ≡ 0) ⊎ Waits (ticked p) k
   waits-kept k l w =
-      let six = tick-keeps-other-fields p k 6 (omega arith) (λ e. omega arith) in
+      let same-wait = tick-keeps-other-fields p k wait-field (omega arith) (λ e. omega arith) in
       ⊎-elim
-      (λ e. inl (six ∙ e))
+      (λ e. inl (same-wait ∙ e))
       (λ (v : Waits p k). let e = v .forever in inr (record {
-        alive = rw six (steady-live p (ticked p) tick-is-steady Jobs (waited-for p k) ∙ v .alive);
-        other = λ e. v .other (sym six ∙ e ∙ tick-keeps-the-number p k);
+        alive = rw same-wait (steady-live p (ticked p) tick-is-steady Jobs (waited-for p k) ∙ v .alive);
+        other = λ e. v .other (sym same-wait ∙ e ∙ tick-keeps-the-number p k);
         forever = falls k l ∙ negative-stays (timeout p k) (omega arith) ∙ e;
       }))
       w

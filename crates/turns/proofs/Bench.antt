@@ -1,5 +1,5 @@
 -- The desk bench's picks and the longest waits, computed.
-use Prim.Native.Nat.{ℕ, zero, suc, _+_, _/_}
+use Prim.Native.Nat.{ℕ, zero, suc, _+_, _-_}
 use mathlib.Core.Path.{_≡_, refl, sym, _∙_}
 use mathlib.Core.Logic.{⊎-elim}
 use mathlib.Core.Bool.{Bool, true, false, _||_, _&&_, false≢true}
@@ -16,7 +16,7 @@ use Rattle.picture.specs.declared.Table.the-variants.{Jobs}
 use Rattle.picture.specs.Layout.{greatest-priority}
 use Rattle.turns.specs.Fields.{set-each}
 use Rattle.turns.specs.Pick.{preferred, chosen-below, chosen-job, accumulated-after, turn-given, picked, picked-number}
-use Rattle.turns.specs.Stretch.{Orderly, Stands, Stretch, over, pick}
+use Rattle.turns.specs.Stretch.{Orderly, Stands, Stretch, over, pick, pick-bound}
 use Rattle.turns.specs.Bench.{set-up, picks, answers, full-house, last-position, last-number, DeskBench, WaitsAsLong}
 use Rattle.turns.proofs.Kept.{pick-keeps-orderly, pick-keeps-standing}
 
@@ -68,9 +68,9 @@ not-there n (y ∷ l) h x = ⊎-elim (λ e. false≢true (sym (left (eqb n y) h)
     right false e = e
 
 -- a wait, from tests that are computed
-waits : (g : ℕ) → orderly? (full-house g) ≡ true → number (full-house g) Jobs last-position ≡ last-number → ready (full-house g) last-position ≡ true → priority (full-house g) last-position ≡ g → any (eqb last-number) (answers (1 + 3810 / g) (full-house g)) ≡ false → WaitsAsLong g
+waits : (g : ℕ) → orderly? (full-house g) ≡ true → number (full-house g) Jobs last-position ≡ last-number → ready (full-house g) last-position ≡ true → priority (full-house g) last-position ≡ g → any (eqb last-number) (answers (pick-bound g - 1) (full-house g)) ≡ false → WaitsAsLong g
 waits g a b c d e =
-    (picks-alone last-number last-position g (1 + 3810 / g) (full-house g) (orderly-by (full-house g) a) (record { names = b; is-ready = c; at = d }), not-there last-number (answers (1 + 3810 / g) (full-house g)) e)
+    (picks-alone last-number last-position g (pick-bound g - 1) (full-house g) (orderly-by (full-house g) a) (record { names = b; is-ready = c; at = d }), not-there last-number (answers (pick-bound g - 1) (full-house g)) e)
 
 -- at priority 127 the last job of a full house waits 31 picks
 pub waits-31-picks-at-127 : WaitsAsLong 127

@@ -12,9 +12,9 @@ use mir.Val.{toZ}
 use Rattle.words.specs.Words.{word, put}
 use Rattle.picture.specs.Layout.{nobody, current-word, positions, width, first-record}
 use Rattle.picture.specs.Keys.{done}
-use Rattle.picture.specs.Records.{slot, field, number, accumulated, delivered}
+use Rattle.picture.specs.Records.{slot, field, number, accumulated, delivered, accumulated-field, key-field}
 use Rattle.picture.specs.declared.Table.the-variants.{Jobs}
-use Rattle.turns.specs.Fields.{accumulated-field, delivered-field, set-each}
+use Rattle.turns.specs.Fields.{set-each}
 use Rattle.turns.specs.Pick.{chosen-job, accumulated-after, turn-given, picked, picked-number, picked-key}
 use Rattle.turns.proofs.Fields.{length-set-each, set-each-other, set-each-at}
 use Rattle.turns.proofs.Rule.{chosen-is-who-the-rule-picks}
@@ -26,27 +26,27 @@ pub record Given (p : List ℕ) (m : ℕ) (q : List ℕ) : Type 0 where
   pub gains : (k : ℕ) → k < positions Jobs → accumulated q k ≡ accumulated-after p m k
   pub key-cleared : delivered q m ≡ 0
   pub other-keys : (k : ℕ) → k ≢ m → delivered q k ≡ delivered p k
-  pub other-fields : (k f : ℕ) → f < width Jobs → f ≢ accumulated-field → f ≢ delivered-field → field q Jobs k f ≡ field p Jobs k f
-  pub elsewhere : (i : ℕ) → i ≢ current-word → i ≢ slot Jobs m + delivered-field → ((k : ℕ) → k < positions Jobs → i ≢ slot Jobs k + accumulated-field) → word q i ≡ word p i
+  pub other-fields : (k f : ℕ) → f < width Jobs → f ≢ accumulated-field → f ≢ key-field → field q Jobs k f ≡ field p Jobs k f
+  pub elsewhere : (i : ℕ) → i ≢ current-word → i ≢ slot Jobs m + key-field → ((k : ℕ) → k < positions Jobs → i ≢ slot Jobs k + accumulated-field) → word q i ≡ word p i
 
 module _ (p : List ℕ) (m : ℕ) where
   gained : List ℕ
   gained = set-each p accumulated-field (accumulated-after p m) (positions Jobs)
 
   cleared : List ℕ
-  cleared = put gained (slot Jobs m + delivered-field) 0
+  cleared = put gained (slot Jobs m + key-field) 0
 
   gained-long : length gained ≡ length p
   unfolding gained
   gained-long = length-set-each p accumulated-field (accumulated-after p m) (positions Jobs)
 
   -- of the three writes only the first reaches i
-  only-gained : (i : ℕ) → i ≢ current-word → i ≢ slot Jobs m + delivered-field → word (turn-given p m) i ≡ word gained i
+  only-gained : (i : ℕ) → i ≢ current-word → i ≢ slot Jobs m + key-field → word (turn-given p m) i ≡ word gained i
   unfolding turn-given cleared gained
   only-gained i a b =
-      getD-set-other cleared current-word i (number p Jobs m) 0 a ∙ getD-set-other gained (slot Jobs m + delivered-field) i 0 0 b
+      getD-set-other cleared current-word i (number p Jobs m) 0 a ∙ getD-set-other gained (slot Jobs m + key-field) i 0 0 b
 
-  pub turn-elsewhere : (i : ℕ) → i ≢ current-word → i ≢ slot Jobs m + delivered-field → ((k : ℕ) → k < positions Jobs → i ≢ slot Jobs k + accumulated-field) → word (turn-given p m) i ≡ word p i
+  pub turn-elsewhere : (i : ℕ) → i ≢ current-word → i ≢ slot Jobs m + key-field → ((k : ℕ) → k < positions Jobs → i ≢ slot Jobs k + accumulated-field) → word (turn-given p m) i ≡ word p i
   unfolding gained
   turn-elsewhere i a b h = only-gained i a b ∙ set-each-other p accumulated-field (accumulated-after p m) (positions Jobs) i h
 
@@ -68,8 +68,8 @@ module _ (p : List ℕ) (m : ℕ) where
     given-key : delivered (turn-given p m) m ≡ 0
     unfolding turn-given cleared gained
     given-key =
-        getD-set-other cleared current-word (slot Jobs m + delivered-field) (number p Jobs m) 0 (omega arith)
-        ∙ getD-set-same gained (slot Jobs m + delivered-field) 0 0 (omega (arith, gained-long))
+        getD-set-other cleared current-word (slot Jobs m + key-field) (number p Jobs m) 0 (omega arith)
+        ∙ getD-set-same gained (slot Jobs m + key-field) 0 0 (omega (arith, gained-long))
 
     pub turn-gives : Given p m (turn-given p m)
     turn-gives =
@@ -78,7 +78,7 @@ module _ (p : List ℕ) (m : ℕ) where
           becomes-current = given-current;
           gains = given-gains;
           key-cleared = given-key;
-          other-keys = λ k ne. turn-elsewhere (slot Jobs k + delivered-field) (omega arith) (λ e. ne (omega arith)) (λ j l e. omega arith);
+          other-keys = λ k ne. turn-elsewhere (slot Jobs k + key-field) (omega arith) (λ e. ne (omega arith)) (λ j l e. omega arith);
           other-fields = λ k f l a d. turn-elsewhere (slot Jobs k + f) (omega arith) (λ e. d (omega arith)) (λ j n e. a (omega arith));
           elsewhere = turn-elsewhere;
         }
@@ -111,7 +111,7 @@ unfolding picked-number picked-key
 pick-answers-nobody p e = rw (eq-eqb (chosen-job p) (positions Jobs) e) (refl, refl)
 
 -- on any picture a pick changes nothing but the current job, accumulated and keys to deliver
-pub pick-changes-only : (p : List ℕ) (i : ℕ) → i ≢ current-word → ((k : ℕ) → k < positions Jobs → (i ≢ slot Jobs k + accumulated-field) × (i ≢ slot Jobs k + delivered-field)) → word (picked p) i ≡ word p i
+pub pick-changes-only : (p : List ℕ) (i : ℕ) → i ≢ current-word → ((k : ℕ) → k < positions Jobs → (i ≢ slot Jobs k + accumulated-field) × (i ≢ slot Jobs k + key-field)) → word (picked p) i ≡ word p i
 pick-changes-only p i a h =
     ⊎-elim
     (λ w. ap (λ (q : List ℕ). word q i) (nobody-picked-leaves p (w .0)) ∙ getD-set-other p current-word i nobody 0 a)

@@ -13,10 +13,9 @@ use borrow.Author.Tests.{eqb-true}
 use Rattle.words.specs.Words.{word}
 use Rattle.words.proofs.Tests.{both}
 use Rattle.picture.specs.Layout.{nobody, current-word, positions, width}
-use Rattle.picture.specs.Records.{slot, field, number, priority, accumulated, timeout, ready}
+use Rattle.picture.specs.Records.{slot, field, number, priority, accumulated, timeout, ready, accumulated-field, key-field, number-field, priority-field, timeout-field}
 use Rattle.picture.specs.declared.Table.the-variants.{Jobs}
 use Rattle.picture.specs.Layout.{hold}
-use Rattle.turns.specs.Fields.{number-field, priority-field, accumulated-field, timeout-field, delivered-field}
 use Rattle.turns.specs.Pick.{chosen-job, accumulated-after, picked}
 use Rattle.turns.specs.Tick.{ticked}
 use Rattle.turns.specs.Stretch.{Orderly, Stands}
@@ -27,7 +26,7 @@ use Rattle.turns.proofs.Tick.{none-stays, tick-keeps-the-number, tick-k
 use Rattle.turns.proofs.Quiet.{kept-record-stands}
 
 -- a pick keeps every field of every job but accumulated and the key to deliver
-pub pick-keeps-fields : (p : List ℕ) (k f : ℕ) → f < width Jobs → f ≢ accumulated-field → f ≢ delivered-field → field (picked p) Jobs k f ≡ field p Jobs k f
+pub pick-keeps-fields : (p : List ℕ) (k f : ℕ) → f < width Jobs → f ≢ accumulated-field → f ≢ key-field → field (picked p) Jobs k f ≡ field p Jobs k f
 pick-keeps-fields p k f l a d = pick-changes-only p (slot Jobs k + f) (omega arith) (λ j m. (λ e. a (omega arith), λ e. d (omega arith)))
 
 pub pick-keeps-the-number : (p : List ℕ) (k : ℕ) → number (picked p) Jobs k ≡ number p Jobs k

@@ -14,10 +14,10 @@ use mir.Val.{toZ}
 use Rattle.words.specs.Words.{put}
 use Rattle.picture.specs.Layout.{nobody, current-word, positions, width}
 use Rattle.picture.specs.Keys.{done}
-use Rattle.picture.specs.Records.{field, number, priority, accumulated, timeout, delivered, ready}
+use Rattle.picture.specs.Records.{field, number, priority, accumulated, timeout, delivered, ready, accumulated-field, priority-field, timeout-field}
 use Rattle.picture.specs.declared.Table.the-variants.{Jobs}
 use Rattle.picture.specs.Layout.{hold}
-use Rattle.turns.specs.Fields.{priority-field, accumulated-field, timeout-field, set-each}
+use Rattle.turns.specs.Fields.{set-each}
 use Rattle.turns.specs.Pick.{preferred, chosen-below, chosen-job, accumulated-after, turn-given, picked, picked-number, picked-key, answer}
 use Rattle.turns.specs.declared.Picked.{Picked}
 use Rattle.turns.proofs.Fields.{later-record-stays}

@@ -9,9 +9,8 @@ use lib.ListN.{length}
 use lib.Seq.{getD-set-same, getD-set-other}
 use Rattle.words.specs.Words.{put}
 use Rattle.picture.specs.Layout.{positions}
-use Rattle.picture.specs.Records.{slot, number, priority, accumulated, timeout}
+use Rattle.picture.specs.Records.{slot, number, priority, accumulated, timeout, accumulated-field}
 use Rattle.picture.specs.declared.Table.the-variants.{Jobs}
-use Rattle.turns.specs.Fields.{accumulated-field}
 use Rattle.turns.specs.Stretch.{Stands, Quiet, Stretch, quiet}
 use Rattle.turns.specs.Tick.{ticked}
 use Rattle.turns.proofs.Pick.{ready-same}

@@ -9,9 +9,8 @@ use borrow.Author.Tests.{lt-leb, le-leb, lt-ltb, le-ltb}
 use Rattle.words.specs.Words.{word}
 use Rattle.words.proofs.Tests.{lt-or-ge}
 use Rattle.picture.specs.Layout.{positions, width, first-record}
-use Rattle.picture.specs.Records.{slot, field, number, priority, accumulated, timeout}
+use Rattle.picture.specs.Records.{slot, field, number, priority, accumulated, timeout, accumulated-field, number-field, priority-field, timeout-field}
 use Rattle.picture.specs.declared.Table.the-variants.{Jobs}
-use Rattle.turns.specs.Fields.{number-field, priority-field, accumulated-field, timeout-field}
 use Rattle.turns.specs.Tick.{first-negative, fallen, ticked}
 use Rattle.turns.proofs.Fields.{length-set-each, set-each-other, set-each-at, other-field-stays}
 

@@ -9,7 +9,7 @@ use Rattle.picture.specs.Numbers.{number-of}
 use Rattle.picture.specs.declared.Table.the-variants.{Jobs, Channels}
 use Rattle.picture.specs.Layout.{greatest-priority}
 use Rattle.turns.specs.Pick.{chosen-job, picked, picked-number}
-use Rattle.turns.specs.Stretch.{Stretch}
+use Rattle.turns.specs.Stretch.{Stretch, pick-bound}
 
 -- the picture's size and its heap, as in the session's first picture
 abbrev pub bench-size : ℕ
@@ -71,4 +71,4 @@ last-number = number-of last-position last-position
 
 -- the last job of a full house, ready all through, is in none of 1 + floor(3810 / g) picks in a row: demand 3's figure is the least
 abbrev pub WaitsAsLong : ℕ → Type 0
-WaitsAsLong g = Stretch last-number last-position g (full-house g) (answers (1 + 3810 / g) (full-house g)) × (List·Memᴰ last-number (answers (1 + 3810 / g) (full-house g)) → ⊥)
+WaitsAsLong g = Stretch last-number last-position g (full-house g) (answers (pick-bound g - 1) (full-house g)) × (List·Memᴰ last-number (answers (pick-bound g - 1) (full-house g)) → ⊥)

@@ -8,11 +8,11 @@ use mir.Syntax.{w32}
 use mir.Val.{toZ}
 use Rattle.words.specs.Words.{put}
 use Rattle.picture.specs.Layout.{nobody, current-word, positions}
-use Rattle.picture.specs.Records.{slot, number, priority, accumulated, delivered, ready}
+use Rattle.picture.specs.Records.{accumulated-field, number, priority, accumulated, delivered, with-key, ready}
 use Rattle.picture.specs.Keys.{done}
 use Rattle.picture.specs.declared.Table.the-variants.{Jobs}
 use Rattle.picture.specs.Layout.{hold}
-use Rattle.turns.specs.Fields.{accumulated-field, delivered-field, set-each}
+use Rattle.turns.specs.Fields.{set-each}
 use Rattle.turns.specs.declared.Picked.{Picked}
 
 -- the job at m, the number of positions for nobody; or the job at k where that is ready and has accumulated more
@@ -34,7 +34,7 @@ accumulated-after p m k = cond (eqb k m) 0 (cond (ready p k) (min hold (accumula
 
 -- "It becomes current", the others gain, and its key to deliver is cleared
 unfoldable pub turn-given : List ℕ → ℕ → List ℕ
-turn-given p m = put (put (set-each p accumulated-field (accumulated-after p m) (positions Jobs)) (slot Jobs m + delivered-field) 0) current-word (number p Jobs m)
+turn-given p m = put (with-key (set-each p accumulated-field (accumulated-after p m) (positions Jobs)) m 0) current-word (number p Jobs m)
 
 -- the picture after the pick; "Nobody ready: nobody current, nothing else moves"
 unfoldable pub picked : List ℕ → List ℕ

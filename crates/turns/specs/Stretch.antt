@@ -1,7 +1,7 @@
 -- Demand 3: "Take document 01's pick rule and any stretch of picks from a sound picture, with only trap calls and ticks between them. A job
 -- that stays ready all through, at one priority p from 1 to 127, with no priority call naming it, is picked at least once in every
 -- 2 + floor(3810 / p) picks in a row, whatever the other jobs create, end, suspend or raise meanwhile."
-use Prim.Native.Nat.{ℕ, _+_, _/_, _<_, _≤_}
+use Prim.Native.Nat.{ℕ, _<_, _≤_}
 use mathlib.Core.Path.{_≡_}
 use mathlib.Core.Logic.{_≢_}
 use mathlib.Core.Bool.{true, false}
@@ -11,7 +11,7 @@ use Rattle.picture.specs.Layout.{positions}
 use Rattle.picture.specs.Records.{slot, number, priority, accumulated, ready}
 use Rattle.picture.specs.declared.Table.the-variants.{Jobs}
 use Rattle.picture.specs.Layout.{greatest-priority}
-use Rattle.fairness.specs.Law.{InEvery}
+use Rattle.fairness.specs.Law.{within, InEvery}
 use Rattle.turns.specs.Pick.{picked, picked-number}
 
 -- the rule in words, among the positions below n: the job at m is ready, no ready job has accumulated more, and one at a lower position less
@@ -44,9 +44,9 @@ pub data Stretch (n j g : ℕ) : List ℕ → List ℕ → Type 0 where
   pick : {p numbers : List ℕ} → Orderly p → Stands n j g p → Stretch n j g (picked p) numbers → Stretch n j g p (picked-number p ∷ numbers)
   quiet : {p q numbers : List ℕ} → Quiet j p q → Stretch n j g q numbers → Stretch n j g p numbers
 
--- of so many picks in a row one is the job's, ready at priority g
+-- "2 + floor(3810 / p)": of so many picks in a row one is the job's, ready at priority g
 abbrev pub pick-bound : ℕ → ℕ
-pick-bound g = 2 + 3810 / g
+pick-bound g = within (positions Jobs) greatest-priority g
 
 -- A TURN THAT CAN'T BE LOST: the job's number is among every so many answers in a row
 abbrev pub NoTurnLost : Type 0

@@ -4,9 +4,9 @@ use mathlib.Core.Bool.{cond, _&&_}
 use mathlib.Core.List.{List}
 use lib.Dec.{leb, ltb}
 use Rattle.picture.specs.Layout.{positions}
-use Rattle.picture.specs.Records.{timeout}
+use Rattle.picture.specs.Records.{timeout-field, timeout}
 use Rattle.picture.specs.declared.Table.the-variants.{Jobs}
-use Rattle.turns.specs.Fields.{timeout-field, set-each}
+use Rattle.turns.specs.Fields.{set-each}
 
 -- from here on a longword read as signed is negative
 abbrev pub first-negative : ℕ

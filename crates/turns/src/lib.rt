@@ -1,10 +1,10 @@
 // Turns: the pick, which gives one job its turn, and the tick of a frame. Both take any contents that have their tables.
 use picture::ACCUMULATED;
 use picture::CURRENT_WORD;
-use picture::DELIVERED;
 use picture::DONE;
 use picture::HOLD;
 use picture::JOBS;
+use picture::KEY;
 use picture::NOBODY;
 use picture::NUMBER;
 use picture::PRIORITY;
@@ -19,12 +19,11 @@ use words::signed_of;
 ghost use mathlib.Core.Path.{_≡_};
 ghost use Prim.Native.Nat.{_+_, _<_, _≤_, min};
 ghost use lib.ListN.{length};
-ghost use Rattle.words.specs.Words.{put};
 ghost use Rattle.picture.specs.Layout.{positions, width};
-ghost use Rattle.picture.specs.Records.{slot};
+ghost use Rattle.picture.specs.Records.{accumulated-field as accumulatedField, with-field as withField};
 ghost use Rattle.picture.specs.declared.Table.the-variants.{Jobs};
 ghost use Rattle.picture.specs.Layout.{hold, heap-base as heapBase};
-ghost use Rattle.turns.specs.Fields.{set-each as setEach, accumulated-field as accumulatedField};
+ghost use Rattle.turns.specs.Fields.{set-each as setEach};
 ghost use Rattle.turns.specs.Pick.{preferred, chosen-job as chosenJob, accumulated-after as accumulatedAfter, picked, answer};
 ghost use Rattle.turns.specs.Tick.{fallen, ticked};
 
@@ -37,7 +36,7 @@ pub struct Picked {
 // Stores v as field f of the record of the job at position k.
 fn set_field(p: &mut [u32], k: usize, f: usize, v: u32)
     requires { ⌜ (heapBase ≤ length (now p)) × ((k < positions Jobs) × (f < width Jobs)) ⌝ }
-    ensures { λ _. ⌜ now (p .exit) ≡ put (now (p .entry)) (slot Jobs k + f) v ⌝ }
+    ensures { λ _. ⌜ now (p .exit) ≡ withField (now (p .entry)) Jobs k f v ⌝ }
 {
     tables::put_at(p, slot_of(Table::Jobs, k) + f, v);
 }
@@ -125,9 +124,9 @@ pub fn pick_turn(p: &mut [u32]) -> Picked
         };
     }
     let number = field_of(p, Table::Jobs, m, NUMBER);
-    let key = signed_of(field_of(p, Table::Jobs, m, DELIVERED));
+    let key = signed_of(field_of(p, Table::Jobs, m, KEY));
     give_gains(p, m);
-    set_field(p, m, DELIVERED, 0);
+    set_field(p, m, KEY, 0);
     put(p, CURRENT_WORD, number);
     Picked { number, key }
 }

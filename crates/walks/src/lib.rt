@@ -7,11 +7,12 @@ ghost use Prim.Native.Nat.{_+_, _<_, _≤_};
 ghost use lib.ListN.{length};
 ghost use Rattle.picture.specs.Layout.{heap-base as heapBase};
 ghost use Rattle.picture.specs.declared.Table.the-variants.{Jobs, Channels};
+ghost use Rattle.blocks.specs.Header.{start-field as startField};
 ghost use Rattle.walks.specs.Walks.{free-fine as freeFine, held-fine as heldFine, block-fine as blockFine, blocks-walked as blocksWalked};
 
 // The rules of a free block, in an area that ends at e.
 pub fn is_free_fine(p: &[u32], e: usize, i: usize) -> bool
-    requires { ⌜ (i + 3 < length (now p)) × ((i < e) × (e < 8589934592)) ⌝ }
+    requires { ⌜ (i + startField < length (now p)) × ((i < e) × (e < 8589934592)) ⌝ }
     ensures { λ r. ⌜ r ≡ freeFine (now (p .entry)) e i ⌝ }
 {
     if !areas::free_blank(p, i) {
@@ -22,10 +23,10 @@ pub fn is_free_fine(p: &[u32], e: usize, i: usize) -> bool
 
 // The rules of a block of the transient area that is not free.
 pub fn is_transient_fine(p: &[u32], i: usize, noted: &[u8; 64]) -> bool
-    requires { ⌜ (heapBase ≤ length (now p)) × ((i + 3 < length (now p)) × (i < 8589934592)) ⌝ }
+    requires { ⌜ (heapBase ≤ length (now p)) × ((i + startField < length (now p)) × (i < 8589934592)) ⌝ }
     ensures { λ r. ⌜ r ≡ heldFine (now (p .entry)) Jobs i ⌝ }
 {
-    if word_at(p, i + 1) != blocks::JOB {
+    if word_at(p, i + blocks::KIND) != blocks::JOB {
         return false;
     }
     if matching::is_noticed(p, Table::Jobs, i, noted) {
@@ -36,15 +37,15 @@ pub fn is_transient_fine(p: &[u32], i: usize, noted: &[u8; 64]) -> bool
 
 // The rules of a block of the heap that is not free.
 pub fn is_heap_fine(p: &[u32], i: usize, noted: &[u8; 64]) -> bool
-    requires { ⌜ (heapBase ≤ length (now p)) × ((i + 3 < length (now p)) × (i < 8589934592)) ⌝ }
+    requires { ⌜ (heapBase ≤ length (now p)) × ((i + startField < length (now p)) × (i < 8589934592)) ⌝ }
     ensures { λ r. ⌜ r ≡ heldFine (now (p .entry)) Channels i ⌝ }
 {
-    if word_at(p, i + 3) != 0 {
+    if word_at(p, i + blocks::START) != 0 {
         return false;
     }
-    let kind = word_at(p, i + 1);
+    let kind = word_at(p, i + blocks::KIND);
     if kind == blocks::PLAIN {
-        return tables::is_live(p, Table::Jobs, word_at(p, i + 2));
+        return tables::is_live(p, Table::Jobs, word_at(p, i + blocks::HOLDER));
     }
     if kind != blocks::QUEUE {
         return false;
@@ -60,7 +61,7 @@ pub fn is_heap_fine(p: &[u32], i: usize, noted: &[u8; 64]) -> bool
 
 // The rules of a block of the table's area that is not free.
 pub fn is_held_fine(p: &[u32], t: Table, i: usize, noted: &[u8; 64]) -> bool
-    requires { ⌜ (heapBase ≤ length (now p)) × ((i + 3 < length (now p)) × (i < 8589934592)) ⌝ }
+    requires { ⌜ (heapBase ≤ length (now p)) × ((i + startField < length (now p)) × (i < 8589934592)) ⌝ }
     ensures { λ r. ⌜ r ≡ heldFine (now (p .entry)) t i ⌝ }
 {
     match t {
@@ -80,7 +81,7 @@ pub fn is_block_fine(p: &[u32], t: Table, e: usize, i: usize, noted: &[u8; 64]) 
     if !areas::is_within(p, e, i) {
         return false;
     }
-    if word_at(p, i + 1) == blocks::FREE {
+    if word_at(p, i + blocks::KIND) == blocks::FREE {
         return is_free_fine(p, e, i);
     }
     is_held_fine(p, t, i, noted)
@@ -98,7 +99,7 @@ pub fn walk_blocks(p: &[u32], t: Table, b: usize, e: usize, noted: &[u8; 64]) ->
         if !is_block_fine(p, t, e, i, noted) {
             return Walked::Broken;
         }
-        found += matching::one_of(word_at(p, i + 1) == kind);
+        found += matching::one_of(word_at(p, i + blocks::KIND) == kind);
         i += word_at(p, i) as usize / 4;
     }
     Walked::Counted(found)

@@ -1,5 +1,5 @@
 -- Longwords of a picture. A picture is a list of longwords, and an index counts longwords.
-use Prim.Native.Nat.{ℕ, zero, suc, _+_}
+use Prim.Native.Nat.{ℕ, zero, suc, _+_, _%_}
 use mathlib.Core.List.{List}
 use lib.ListN.{getD, set}
 
@@ -10,6 +10,10 @@ word p i = getD p i 0
 -- the picture with v at i
 abbrev pub put : List ℕ → ℕ → ℕ → List ℕ
 put p i v = set p i v
+
+-- the low word of a register
+abbrev pub low-word : ℕ → ℕ
+low-word register = register % 65536
 
 -- the picture with n longwords from i on cleared
 unfoldable pub clear : ℕ → List ℕ → ℕ → List ℕ

@@ -3,7 +3,7 @@ ghost use mathlib.Core.Path.{_≡_};
 ghost use Prim.Native.Nat.{_-_, _%_, _<_, _≤_};
 ghost use mir.Syntax.{w16, w32};
 ghost use mir.Val.{toZ, ofZ};
-ghost use Rattle.words.specs.Words.{word, put, clear};
+ghost use Rattle.words.specs.Words.{word, put, clear, low-word as lowWord};
 ghost use Rattle.words.specs.Bits.{bit, lowest-clear as lowestClear};
 
 // The longword at i, 0 past the end.
@@ -53,7 +53,7 @@ pub fn lowest_clear(mask: u32) -> usize
 
 // The low word of a register, read as signed.
 pub fn low_half(register: u32) -> i32
-    ensures { λ r. ⌜ r ≡ toZ w16 (register % 65536) ⌝ }
+    ensures { λ r. ⌜ r ≡ toZ w16 (lowWord register) ⌝ }
 {
     let half = register % 65536;
     if half < 32768 {

@@ -8,11 +8,15 @@ use Rattle.asking.proofs.next_member.Reads as next-member-reads
 use Rattle.asking.proofs.room_of.Reads as room-of-reads
 use Rattle.asking.proofs.standing_of.Reads as standing-of-reads
 use Rattle.picture.proofs.field_of.Reads as field-of-reads
+use Rattle.picture.proofs.tag_of.Reads as tag-of-reads
 use Rattle.tree.proofs.tree_of.Reads as tree-of-reads
 use Rattle.words.proofs.put.Reads as put-reads
 
 field-of-requires : tie.Need-field-of-requires
 field-of-requires c κs = search needs
+
+tag-of-requires : tie.Need-tag-of-requires
+tag-of-requires c κs = search needs
 
 tree-of-requires : tie.Need-tree-of-requires
 tree-of-requires c κs = search needs
@@ -58,13 +62,14 @@ returns c = let e = c .before .before in
     let o = h .before in
     let j = o .before .before .before .before in
     let n = j .before in
-    rw (e .put5 .ensures, f .put4 .ensures, r .room-of .ensures, g .put3 .ensures, s .standing-of .ensures, h .put2 .ensures, o .field-of2 .ensures, j .put .ensures, n .next-member .ensures, n .before .tree-of .ensures, n .before .before .before .field-of .ensures)
+    rw (e .put5 .ensures, f .put4 .ensures, r .room-of .ensures, g .put3 .ensures, s .standing-of .ensures, h .put2 .ensures, o .field-of2 .ensures, j .put .ensures, n .next-member .ensures, n .before .tree-of .ensures, n .before .before .before .tag-of .ensures, n .before .before .before .before .field-of .ensures)
 
 pub answer-spec : {M : Type 1} → statement M
 answer-spec =
     tie.close
     (tie.spec
     field-of-requires
+    tag-of-requires
     tree-of-requires
     next-member-requires
     put-requires

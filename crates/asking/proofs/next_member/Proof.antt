@@ -1,3 +1,5 @@
+use Rattle.picture.specs.Layout.{positions}
+use Rattle.picture.specs.declared.Table.the-variants.{Jobs}
 use mathlib.Core.Logic.{⊎-elim}
 use mathlib.Core.Path.{_≡_, refl, sym, _∙_}
 use Prim.Native.Nat.{_≤_, _-_}
@@ -13,10 +15,10 @@ use Rattle.asking.proofs.is_nearer.Reads as is-nearer-reads
 use Rattle.picture.proofs.field_of.Reads as field-of-reads
 
 abbrev Inv-loop : tie.InvT-loop
-Inv-loop p mask tag n₀ k₀ n k = (k ≤ 32) × (n ≡ next-below k p mask tag)
+Inv-loop p mask tag n₀ k₀ n k = (k ≤ positions Jobs) × (n ≡ next-below k p mask tag)
 
 abbrev μ-loop : tie.MeasureT-loop
-μ-loop p mask tag n₀ k₀ n k = 32 - k
+μ-loop p mask tag n₀ k₀ n k = positions Jobs - k
 
 loop-holds : tie.Need-loop-holds Inv-loop μ-loop
 unfolding next-below
@@ -46,7 +48,7 @@ loop-again c = let d = c .before in
 
 returns : tie.Need-returns Inv-loop μ-loop
 unfolding next-member
-returns c = let e : c .before .loop .k ≡ 32 = omega arith in c .before .loop .inv .1 ∙ rw e
+returns c = let e : c .before .loop .k ≡ positions Jobs = omega arith in c .before .loop .inv .1 ∙ rw e
 
 pub next-member-spec : {M : Type 1} → statement M
 next-member-spec =

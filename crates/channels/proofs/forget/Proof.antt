@@ -47,7 +47,7 @@ returns : tie.Need-returns
 unfolding forgotten
 returns c = let d = c .before .before in let e = d .before .before .before .before in let w = e .before in let s = w .before .before in let b = s .before in
     let z : s .slot-of .result + w .width-of .result - s .slot-of .result ≡ w .width-of .result = omega arith in
-    rw (d .put .ensures, e .clear .ensures, z, w .width-of .ensures .0, s .slot-of .ensures .0, b .clear-bit .ensures, b .before .word .ensures, b .before .before .before .mask-of .ensures)
+    rw (d .put .ensures, e .clear .ensures, z, w .width-of .ensures, s .slot-of .ensures .0, b .clear-bit .ensures, b .before .word .ensures, b .before .before .before .mask-of .ensures)
 
 pub forget-spec : {M : Type 1} → statement M
 forget-spec =

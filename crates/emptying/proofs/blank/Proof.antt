@@ -37,7 +37,7 @@ returns c = let l = c .before .before in
     let w = l .before in
     let s = w .before .before in
     let h = s .before in
-    rw (l .clear .ensures, w .width-of .ensures .0, s .slot-of .ensures .0, back _ _, sym (h .before .is-set .ensures) ∙ h .if1 .taken)
+    rw (l .clear .ensures, w .width-of .ensures, s .slot-of .ensures .0, back _ _, sym (h .before .is-set .ensures) ∙ h .if1 .taken)
 
 returns-2 : tie.Need-returns-2
 unfolding blanked

@@ -1,3 +1,5 @@
+use Rattle.picture.specs.Layout.{positions}
+use Rattle.picture.specs.declared.Table.the-variants.{Channels}
 use mathlib.Core.Path.{_≡_, refl, sym, _∙_}
 use Prim.Native.Nat.{_≤_, _-_}
 use Rattle.tree.specs.Mask.{mask}
@@ -13,10 +15,10 @@ use Rattle.emptying.proofs.is_channel_going.Reads as is-channel-going-r
 use Rattle.tree.proofs.with_bit.Reads as with-bit-reads
 
 abbrev Inv-loop : tie.InvT-loop
-Inv-loop p mask channels₀ k₀ channels k = (k ≤ 32) × (channels ≡ Rattle.tree.specs.Mask.mask (channel-goes p mask) k)
+Inv-loop p mask channels₀ k₀ channels k = (k ≤ positions Channels) × (channels ≡ Rattle.tree.specs.Mask.mask (channel-goes p mask) k)
 
 abbrev μ-loop : tie.MeasureT-loop
-μ-loop p mask channels₀ k₀ channels k = 32 - k
+μ-loop p mask channels₀ k₀ channels k = positions Channels - k
 
 loop-holds : tie.Need-loop-holds Inv-loop μ-loop
 unfolding mask
@@ -39,7 +41,7 @@ loop-again c = let l = c .before .before .before .loop in (omega arith, c .with-
 
 returns : tie.Need-returns Inv-loop μ-loop
 unfolding channels-of
-returns c = let e : c .before .loop .k ≡ 32 = omega arith in c .before .loop .inv .1 ∙ rw e
+returns c = let e : c .before .loop .k ≡ positions Channels = omega arith in c .before .loop .inv .1 ∙ rw e
 
 pub channels-of-spec : {M : Type 1} → statement M
 channels-of-spec =

@@ -30,7 +30,7 @@ unfolding each
 loop-holds c = (omega arith, (refl, refl))
 
 blank-requires : tie.Need-blank-requires Inv-loop μ-loop
-blank-requires c κs = rw (c .before .before .before .positions-of .ensures .0) at (c .before .loop-test .taken)
+blank-requires c κs = rw (c .before .before .before .positions-of .ensures) at (c .before .loop-test .taken)
 
 add-k : tie.Need-add-k Inv-loop μ-loop
 add-k c = search needs
@@ -63,7 +63,7 @@ returns c = let u = c .before .before in
     let l = m .before in
     let a = l .before in
     let e : a .loop .k ≡ a .before .positions-of .result = omega arith in
-    rw (u .put .ensures, w .word .ensures, m .mask-of .ensures, a .loop .inv .1 .1, e, a .before .positions-of .ensures .0)
+    rw (u .put .ensures, w .word .ensures, m .mask-of .ensures, a .loop .inv .1 .1, e, a .before .positions-of .ensures)
 
 pub empty-table-spec : {M : Type 1} → statement M
 empty-table-spec =

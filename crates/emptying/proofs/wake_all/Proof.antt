@@ -1,3 +1,5 @@
+use Rattle.picture.specs.Layout.{positions}
+use Rattle.picture.specs.declared.Table.the-variants.{Jobs}
 use mathlib.Core.Path.{_≡_, refl, sym, ap, _∙_}
 use Prim.Native.Nat.{_≤_, _-_}
 use lib.ListN.{length}
@@ -13,10 +15,10 @@ use Rattle.emptying.proofs.wake_all.Lts as lts
 use Rattle.emptying.proofs.wake.Reads as wake-reads
 
 abbrev Inv-loop : tie.InvT-loop
-Inv-loop p₀ mask key k₀ p k = (k ≤ 32) × ((length p ≡ length p₀) × (p ≡ each (woken mask key) k p₀))
+Inv-loop p₀ mask key k₀ p k = (k ≤ positions Jobs) × ((length p ≡ length p₀) × (p ≡ each (woken mask key) k p₀))
 
 abbrev μ-loop : tie.MeasureT-loop
-μ-loop p₀ mask key k₀ p k = 32 - k
+μ-loop p₀ mask key k₀ p k = positions Jobs - k
 
 loop-holds : tie.Need-loop-holds Inv-loop μ-loop
 unfolding each
@@ -40,7 +42,7 @@ same-length : tie.Need-same-length Inv-loop μ-loop
 same-length c = search needs
 
 returns : tie.Need-returns Inv-loop μ-loop
-returns c = let e : c .before .loop .k ≡ 32 = omega arith in c .before .loop .inv .1 .1 ∙ rw e
+returns c = let e : c .before .loop .k ≡ positions Jobs = omega arith in c .before .loop .inv .1 .1 ∙ rw e
 
 pub wake-all-spec : {M : Type 1} → statement M
 wake-all-spec =

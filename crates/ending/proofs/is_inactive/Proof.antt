@@ -1,3 +1,5 @@
+use Rattle.picture.specs.Layout.{positions}
+use Rattle.picture.specs.declared.Table.the-variants.{Jobs}
 use Rattle.ending.specs.Remove.{at-rest}
 use mathlib.Core.Path.{_≡_, refl, sym, ap, _∙_}
 use mathlib.Core.Bool.{true, false, not, _&&_}
@@ -17,10 +19,10 @@ use Rattle.picture.proofs.is_active.Reads as is-active-reads
 use Rattle.words.proofs.is_set.Reads as is-set-reads
 
 abbrev Inv-loop : tie.InvT-loop
-Inv-loop p mask k₀ k = (k ≤ 32) × (every (at-rest p mask) k ≡ true)
+Inv-loop p mask k₀ k = (k ≤ positions Jobs) × (every (at-rest p mask) k ≡ true)
 
 abbrev μ-loop : tie.MeasureT-loop
-μ-loop p mask k₀ k = 32 - k
+μ-loop p mask k₀ k = positions Jobs - k
 
 loop-holds : tie.Need-loop-holds Inv-loop μ-loop
 loop-holds c = (omega arith, refl)
@@ -36,7 +38,7 @@ unfolding inactive at-rest
 returns c = let a = c .before in
     let l = a .before .before .before in
     let s = l .before .before .args in
-    sym (every-not (at-rest (s .p .now) (s .mask)) 32 (l .loop .k) (a .before .before .loop-test .taken) (ap not (rw (a .is-active .ensures, a .before .is-set .ensures) at (c .if1 .taken))))
+    sym (every-not (at-rest (s .p .now) (s .mask)) (positions Jobs) (l .loop .k) (a .before .before .loop-test .taken) (ap not (rw (a .is-active .ensures, a .before .is-set .ensures) at (c .if1 .taken))))
 
 add-k : tie.Need-add-k Inv-loop μ-loop
 add-k c = search needs
@@ -53,7 +55,7 @@ loop-again c = let a = c .before in
 
 returns-2 : tie.Need-returns-2 Inv-loop μ-loop
 unfolding inactive
-returns-2 c = let e : c .before .loop .k ≡ 32 = omega arith in sym (rw e at (c .before .loop .inv .1))
+returns-2 c = let e : c .before .loop .k ≡ positions Jobs = omega arith in sym (rw e at (c .before .loop .inv .1))
 
 pub is-inactive-spec : {M : Type 1} → statement M
 is-inactive-spec =

@@ -1,5 +1,5 @@
 use native.Mathlib.Omega.{arith}
-use Rattle.picture.proofs.Records.{positions-within}
+use Rattle.picture.proofs.Records.{positions-named}
 use Rattle.entering.specs.Entry.{entered}
 use borrow.Author.Needs.{needs}
 use Rattle.entering.proofs.enter.Statement.{statement}
@@ -11,7 +11,7 @@ use Rattle.entering.proofs.write_record.Reads as write-record-reads
 use Rattle.picture.proofs.number_of.Reads as number-of-reads
 
 number-of-requires : tie.Need-number-of-requires
-number-of-requires c κs = (c .before .before .pre .1, omega (arith, c .before .before .pre .0, positions-within (c .before .before .args .t)))
+number-of-requires c κs = (c .before .before .pre .1, omega (arith, c .before .before .pre .0, positions-named (c .before .before .args .t)))
 
 write-record-requires : tie.Need-write-record-requires
 write-record-requires c κs = search needs

@@ -3,6 +3,7 @@ use mathlib.Core.Path.{_≡_}
 use Prim.Native.Nat.{_+_, _-_}
 use Rattle.picture.specs.Layout.{width}
 use Rattle.picture.specs.Records.{slot}
+use Rattle.picture.proofs.Records.{shared}
 use Rattle.entering.specs.Entry.{recorded}
 use borrow.Author.Needs.{needs}
 use Rattle.entering.proofs.write_record.Statement.{statement}
@@ -27,13 +28,13 @@ clear-requires : tie.Need-clear-requires
 clear-requires c κs = search needs
 
 put-field-requires : tie.Need-put-field-requires
-put-field-requires c κs = search needs
+put-field-requires c κs = let s = c .before .before .before .before .before .before .before .before in (s .pre, shared (s .args .t) _ (omega arith))
 
 put-field-requires-2 : tie.Need-put-field-requires-2
-put-field-requires-2 c κs = search needs
+put-field-requires-2 c κs = let s = c .before .before .before .before .before .before .before .before .before .before .before .before in (s .pre, shared (s .args .t) _ (omega arith))
 
 put-field-requires-3 : tie.Need-put-field-requires-3
-put-field-requires-3 c κs = search needs
+put-field-requires-3 c κs = let s = c .before .before .before .before .before .before .before .before .before .before .before .before .before .before .before .before in (s .pre, shared (s .args .t) _ (omega arith))
 
 same-length : tie.Need-same-length
 same-length c = search needs
@@ -42,7 +43,7 @@ returns : tie.Need-returns
 unfolding recorded
 returns c = let a = c .before .before .before .before .before .before .before .before .before .before .before .before .before .before .before .before .before .before .before .args in
     let z : slot (a .t) (a .k) + width (a .t) - slot (a .t) (a .k) ≡ width (a .t) = omega arith in
-    rw (c .before .before .put-field3 .ensures, c .before .before .before .before .before .before .put-field2 .ensures, c .before .before .before .before .before .before .before .before .before .before .put-field .ensures, c .before .before .before .before .before .before .before .before .before .before .before .before .before .before .clear .ensures, c .before .before .before .before .before .before .before .before .before .before .before .before .before .before .before .width-of .ensures .0, c .before .before .before .before .before .before .before .before .before .before .before .before .before .before .before .before .before .slot-of .ensures .0, z)
+    rw (c .before .before .put-field3 .ensures, c .before .before .before .before .before .before .put-field2 .ensures, c .before .before .before .before .before .before .before .before .before .before .put-field .ensures, c .before .before .before .before .before .before .before .before .before .before .before .before .before .before .clear .ensures, c .before .before .before .before .before .before .before .before .before .before .before .before .before .before .before .width-of .ensures, c .before .before .before .before .before .before .before .before .before .before .before .before .before .before .before .before .before .slot-of .ensures .0, z)
 
 pub write-record-spec : {M : Type 1} → statement M
 write-record-spec =

@@ -3,7 +3,7 @@ use lib.ListN.{getD}
 use Rattle.entries.proofs.Passed.{Passed, passed-none, passed-blank, passed-live, not-blank, not-live, not-once, passed-all}
 use Rattle.matching.specs.Match.{first}
 use Rattle.picture.specs.Layout.{positions}
-use Rattle.tables.proofs.Within.{shared}
+use Rattle.picture.proofs.Records.{shared, positions-within}
 use borrow.Author.Tests.{not-true, not-false}
 use mathlib.Core.Path.{_≡_, sym, _∙_}
 use Prim.Native.Nat.{_-_, _%_, _≤_}
@@ -36,7 +36,7 @@ first-of-requires : tie.Need-first-of-requires Inv-loop μ-loop
 first-of-requires c κs = search needs
 
 loop-holds : tie.Need-loop-holds Inv-loop μ-loop
-loop-holds c = (c .before .positions-of .ensures .0, (c .first-of .ensures, (omega arith, passed-none _ _ _ (search needs))))
+loop-holds c = (c .before .positions-of .ensures, (c .first-of .ensures, (omega arith, passed-none _ _ _ (search needs))))
 
 is-used-requires : tie.Need-is-used-requires Inv-loop μ-loop
 is-used-requires c κs = search needs
@@ -103,7 +103,9 @@ array-write-seen : tie.Need-array-write-seen Inv-loop μ-loop
 array-write-seen c = search needs
 
 cast-noted : tie.Need-cast-noted Inv-loop μ-loop
-cast-noted c = search needs
+cast-noted c =
+    let l = c .before .before .before .before .before .before .before in
+    record { fits = omega (arith, positions-within (l .before .before .before .before .before .args .t), l .before .loop .inv .0, l .loop-test .taken) }
 
 field-of-requires : tie.Need-field-of-requires Inv-loop μ-loop
 field-of-requires c κs =

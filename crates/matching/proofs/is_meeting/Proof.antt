@@ -1,4 +1,4 @@
-use Rattle.tables.proofs.Within.{shared}
+use Rattle.picture.proofs.Records.{shared}
 use Rattle.matching.specs.Met.{meets}
 use native.Mathlib.Omega.{arith}
 use borrow.Author.Tests.{eq-eqb, ne-eqb}

@@ -25,7 +25,7 @@ positions-of-requires : tie.Need-positions-of-requires Inv-loop μ-loop
 positions-of-requires c κs = search needs
 
 loop-holds : tie.Need-loop-holds Inv-loop μ-loop
-loop-holds c = (c .positions-of .ensures .0, (omega arith, refl))
+loop-holds c = (c .positions-of .ensures, (omega arith, refl))
 
 is-meeting-requires : tie.Need-is-meeting-requires Inv-loop μ-loop
 is-meeting-requires c κs = let l = c .before in let s = l .before .before .before in (s .pre .0, (rw (l .loop .inv .0) at (c .loop-test .taken), s .pre .1))

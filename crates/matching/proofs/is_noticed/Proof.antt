@@ -22,7 +22,7 @@ returns : tie.Need-returns
 unfolding noticed
 returns c =
     let w = c .before in
-    rw (le-ltb _ _ (rw (w .positions-of .ensures .0, w .before .wide .ensures) at (c .if1 .taken)))
+    rw (le-ltb _ _ (rw (w .positions-of .ensures, w .before .wide .ensures) at (c .if1 .taken)))
 
 is-meeting-requires : tie.Need-is-meeting-requires
 is-meeting-requires c κs = search needs
@@ -32,7 +32,7 @@ unfolding noticed
 returns-2 c =
     let e = c .before in
     let w = e .before in
-    rw (lt-ltb _ _ (rw (w .positions-of .ensures .0, w .before .wide .ensures) at (e .if1 .left)), c .is-meeting .ensures, w .before .wide .ensures)
+    rw (lt-ltb _ _ (rw (w .positions-of .ensures, w .before .wide .ensures) at (e .if1 .left)), c .is-meeting .ensures, w .before .wide .ensures)
 
 pub is-noticed-spec : {M : Type 1} → statement M
 is-noticed-spec =

@@ -6,7 +6,7 @@ use borrow.Author.Tests.{not-true, not-false}
 use mir.Syntax.{w32}
 use mir.ValLaws.{toZ-ofZ}
 use Rattle.words.specs.Words.{word}
-use Rattle.picture.specs.Layout.{greatest-tag, upto}
+use Rattle.picture.specs.Layout.{positions, greatest-tag, upto}
 use Rattle.picture.specs.Numbers.{job-at, free-position}
 use Rattle.picture.specs.declared.Table.the-variants.{Channels}
 use Rattle.picture.specs.declared.JobFound.the-variants.{At}
@@ -50,7 +50,7 @@ lives c = let j = c .before .before in rw (owner (j .before .before)) at (sym (j
 fair : (c : tie.Else1) → good (named (c .before .before .before .before .before .before .before .before .before .before .before .before .before .before .args .name .now)) ≡ true
 fair c = let g = c .before in rw (g .before .read-name .ensures) at (sym (g .is-good .ensures) ∙ not-false _ (c .if1 .left))
 
-free : (c : tie.Else2) → free-position (c .before .before .before .before .before .before .before .before .before .before .before .before .before .before .before .before .before .args .p .now) Channels < 32
+free : (c : tie.Else2) → free-position (c .before .before .before .before .before .before .before .before .before .before .before .before .before .before .before .before .before .args .p .now) Channels < positions Channels
 free c = rw (c .before .free-position .ensures .0) at (c .if2 .left)
 
 tagged : (c : tie.Else3) → word (c .before .before .before .before .before .before .before .before .before .before .before .before .before .before .before .before .before .before .before .before .before .args .p .now) 3 < greatest-tag

@@ -1,6 +1,7 @@
 use Rattle.picture.proofs.Records.{positions-same}
 use Rattle.picture.specs.Numbers.{free-position}
-use mathlib.Core.Path.{sym, _∙_, ap}
+use Prim.Native.Nat.{ℕ, _≤_}
+use mathlib.Core.Path.{sym, _∙_, ap, subst}
 use borrow.Author.Needs.{needs}
 use Rattle.picture.proofs.free_position.Statement.{statement}
 use Rattle.picture.proofs.free_position.Tie as tie
@@ -21,7 +22,7 @@ lowest-clear-requires c κs = search needs
 
 returns : tie.Need-returns
 unfolding free-position
-returns c = (rw (c .lowest-clear .ensures .0, c .before .word .ensures, c .before .before .mask-of .ensures, positions-same (c .before .before .before .before .args .t)), c .lowest-clear .ensures .1)
+returns c = (rw (c .lowest-clear .ensures .0, c .before .word .ensures, c .before .before .mask-of .ensures, positions-same (c .before .before .before .before .args .t)), subst (λ (n : ℕ). c .lowest-clear .result ≤ n) (sym (positions-same (c .before .before .before .before .args .t))) (c .lowest-clear .ensures .1))
 
 pub free-position-spec : {M : Type 1} → statement M
 free-position-spec =

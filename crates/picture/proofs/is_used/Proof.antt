@@ -1,4 +1,5 @@
-use Rattle.picture.proofs.Records.{used-past, used-is}
+use native.Mathlib.Omega.{arith}
+use Rattle.picture.proofs.Records.{used-past, used-is, positions-within}
 use mathlib.Core.Path.{sym, _∙_}
 use borrow.Author.Needs.{needs}
 use Rattle.picture.proofs.is_used.Statement.{statement}
@@ -14,7 +15,7 @@ positions-of-requires : tie.Need-positions-of-requires
 positions-of-requires c κs = search needs
 
 returns : tie.Need-returns
-returns c = sym (used-past _ _ _ (rw (c .before .positions-of .ensures .0) at (c .if1 .taken)))
+returns c = sym (used-past _ _ _ (rw (c .before .positions-of .ensures) at (c .if1 .taken)))
 
 mask-of-requires : tie.Need-mask-of-requires
 mask-of-requires c κs = search needs
@@ -23,10 +24,10 @@ word-requires : tie.Need-word-requires
 word-requires c κs = search needs
 
 is-set-requires : tie.Need-is-set-requires
-is-set-requires c κs = search needs
+is-set-requires c κs = let d = c .before .before in omega (arith, positions-within (d .before .before .before .args .t), d .before .positions-of .ensures, d .if1 .left)
 
 returns-2 : tie.Need-returns-2
-returns-2 c = let d = c .before .before .before in rw (used-is _ _ _ (rw (d .before .positions-of .ensures .0) at (d .if1 .left)), c .is-set .ensures, c .before .word .ensures, c .before .before .mask-of .ensures)
+returns-2 c = let d = c .before .before .before in rw (used-is _ _ _ (rw (d .before .positions-of .ensures) at (d .if1 .left)), c .is-set .ensures, c .before .word .ensures, c .before .before .mask-of .ensures)
 
 pub is-used-spec : {M : Type 1} → statement M
 is-used-spec =

@@ -1,5 +1,5 @@
 use Rattle.records.specs.Rules.{owner-live}
-use Rattle.tables.proofs.Within.{shared}
+use Rattle.picture.proofs.Records.{shared}
 use native.Mathlib.Omega.{arith}
 use borrow.Author.Needs.{needs}
 use Rattle.records.proofs.owner_live.Statement.{statement}

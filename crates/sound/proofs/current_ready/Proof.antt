@@ -10,6 +10,7 @@ use Rattle.sound.proofs.current_ready.Reads as reads
 use Rattle.sound.proofs.current_ready.Lts as lts
 use Rattle.picture.proofs.is_live.Reads as is-live-reads
 use Rattle.picture.proofs.is_ready.Reads as is-ready-reads
+use Rattle.picture.proofs.position_of.Reads as position-of-reads
 use Rattle.words.proofs.word.Reads as word-reads
 
 word-requires : tie.Need-word-requires
@@ -28,18 +29,18 @@ returns-2 c =
     let w = c .before .before .before in
     rw (ne-eqb _ _ (rw (w .word .ensures) at (c .before .before .if1 .left)), rw (w .word .ensures) at (sym (c .before .is-live .ensures) ∙ not-true _ (c .if2 .taken)))
 
-cast-is-ready : tie.Need-cast-is-ready
-cast-is-ready c = search needs
+position-of-requires : tie.Need-position-of-requires
+position-of-requires c κs = search needs
 
 is-ready-requires : tie.Need-is-ready-requires
-is-ready-requires c κs = used-below _ _ _ (live-is _ _ _ (sym (c .before .is-live .ensures) ∙ not-false _ (c .if2 .left)) .used)
+is-ready-requires c κs = let d = c .before in rw (c .position-of .ensures .0) (used-below _ _ _ (live-is _ _ _ (sym (d .before .is-live .ensures) ∙ not-false _ (d .if2 .left)) .used))
 
 returns-3 : tie.Need-returns-3
 unfolding current-ready
 returns-3 c =
-    let d = c .before in
+    let d = c .before .before in
     let w = d .before .before .before in
-    rw (ne-eqb _ _ (rw (w .word .ensures) at (d .before .before .if1 .left)), rw (w .word .ensures) at (sym (d .before .is-live .ensures) ∙ not-false _ (d .if2 .left)), c .is-ready .ensures, w .word .ensures)
+    rw (ne-eqb _ _ (rw (w .word .ensures) at (d .before .before .if1 .left)), rw (w .word .ensures) at (sym (d .before .is-live .ensures) ∙ not-false _ (d .if2 .left)), c .is-ready .ensures, c .before .position-of .ensures .0, w .word .ensures)
 
 pub current-ready-spec : {M : Type 1} → statement M
 current-ready-spec =
@@ -49,6 +50,6 @@ current-ready-spec =
     returns
     is-live-requires
     returns-2
-    cast-is-ready
+    position-of-requires
     is-ready-requires
     returns-3)

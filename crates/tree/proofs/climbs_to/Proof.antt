@@ -1,3 +1,4 @@
+use Rattle.picture.specs.Numbers.{tag-weight}
 use mathlib.Core.Path.{_≡_, refl, sym, _∙_}
 use Prim.Native.Nat.{_<_}
 use Rattle.picture.specs.declared.Table.the-variants.{Jobs}
@@ -10,10 +11,11 @@ use Rattle.tree.proofs.climbs_to.Statement.{statement}
 use Rattle.tree.proofs.climbs_to.Tie as tie
 use Rattle.tree.proofs.climbs_to.Reads as reads
 use Rattle.tree.proofs.climbs_to.Lts as lts
+use Rattle.picture.proofs.position_of.Reads as position-of-reads
 use Rattle.words.proofs.word.Reads as word-reads
 
 abbrev Inv-loop : tie.InvT-loop
-Inv-loop p t k j₀ n₀ j n = (j < 65536) × (climbs (positions Jobs) p t k ≡ climbs n p t j)
+Inv-loop p t k j₀ n₀ j n = (j < tag-weight) × (climbs (positions Jobs) p t k ≡ climbs n p t j)
 
 abbrev μ-loop : tie.MeasureT-loop
 μ-loop p t k j₀ n₀ j n = n
@@ -40,8 +42,8 @@ returns-2 : tie.Need-returns-2 Inv-loop μ-loop
 returns-2 c = let d = c .before .before in
     sym (d .before .before .loop .inv .1 ∙ climbs-stops _ _ _ _ (d .before .loop-test .taken) (d .if1 .left) (sym (c .before .word .ensures) ∙ c .if2 .taken))
 
-cast-j : tie.Need-cast-j Inv-loop μ-loop
-cast-j c = search needs
+position-of-requires : tie.Need-position-of-requires Inv-loop μ-loop
+position-of-requires c κs = search needs
 
 sub-n : tie.Need-sub-n Inv-loop μ-loop
 sub-n c = search needs
@@ -50,9 +52,11 @@ loop-less : tie.Need-loop-less Inv-loop μ-loop
 loop-less c = search needs
 
 loop-again : tie.Need-loop-again Inv-loop μ-loop
-loop-again c = let d = c .before .before in
-    let w = c .before .word .ensures in
-    (omega arith, d .before .before .loop .inv .1 ∙ climbs-up _ _ _ _ (d .before .loop-test .taken) (d .if1 .left) (rw w at (c .if2 .left)) ∙ rw w)
+loop-again c =
+    let e = c .before in
+    let d = e .before .before in
+    let w = e .before .word .ensures in
+    (c .position-of .ensures .1, d .before .before .loop .inv .1 ∙ climbs-up _ _ _ _ (d .before .loop-test .taken) (d .if1 .left) (rw w at (e .if2 .left)) ∙ rw (c .position-of .ensures .0, w))
 
 returns-3 : tie.Need-returns-3 Inv-loop μ-loop
 returns-3 c = sym (c .before .loop .inv .1 ∙ climbs-ends _ _ _ _ (omega arith))
@@ -70,7 +74,7 @@ climbs-to-spec =
     add-word-2
     word-requires
     returns-2
-    cast-j
+    position-of-requires
     sub-n
     loop-less
     loop-again

@@ -1,3 +1,5 @@
+use Rattle.picture.specs.Layout.{positions}
+use Rattle.picture.specs.declared.Table.the-variants.{Jobs}
 use mathlib.Core.Path.{_≡_, refl, sym, _∙_}
 use Prim.Native.Nat.{_≤_, _-_}
 use Rattle.tree.specs.Mask.{mask}
@@ -13,10 +15,10 @@ use Rattle.tree.proofs.is_in_tree.Reads as is-in-tree-reads
 use Rattle.tree.proofs.with_bit.Reads as with-bit-reads
 
 abbrev Inv-loop : tie.InvT-loop
-Inv-loop p t mask₀ k₀ mask k = (k ≤ 32) × (mask ≡ Rattle.tree.specs.Mask.mask (in-tree p t) k)
+Inv-loop p t mask₀ k₀ mask k = (k ≤ positions Jobs) × (mask ≡ Rattle.tree.specs.Mask.mask (in-tree p t) k)
 
 abbrev μ-loop : tie.MeasureT-loop
-μ-loop p t mask₀ k₀ mask k = 32 - k
+μ-loop p t mask₀ k₀ mask k = positions Jobs - k
 
 loop-holds : tie.Need-loop-holds Inv-loop μ-loop
 unfolding mask
@@ -39,7 +41,7 @@ loop-again c = let l = c .before .before .before .loop in (omega arith, c .with-
 
 returns : tie.Need-returns Inv-loop μ-loop
 unfolding tree
-returns c = let e : c .before .loop .k ≡ 32 = omega arith in c .before .loop .inv .1 ∙ rw e
+returns c = let e : c .before .loop .k ≡ positions Jobs = omega arith in c .before .loop .inv .1 ∙ rw e
 
 pub tree-of-spec : {M : Type 1} → statement M
 tree-of-spec =

@@ -1,9 +1,10 @@
 use Prim.Native.Nat.{_-_, _≤_}
 use lib.ListN.{length, length-set}
 use mathlib.Core.Path.{_≡_, refl, _∙_, ap}
+use Rattle.picture.specs.Records.{accumulated-field}
 use Rattle.picture.specs.declared.Table.the-variants.{Jobs}
 use Rattle.picture.specs.Layout.{positions}
-use Rattle.turns.specs.Fields.{accumulated-field, set-each}
+use Rattle.turns.specs.Fields.{set-each}
 use Rattle.turns.specs.Pick.{accumulated-after}
 use Rattle.turns.proofs.Pick.{gain-ahead}
 use Rattle.turns.proofs.Fields.{set-each-none, set-each-next}

@@ -3,9 +3,9 @@ use lib.ListN.{length, length-set}
 use mathlib.Core.Path.{_≡_, refl, _∙_, ap}
 use mathlib.Core.List.{List}
 use Rattle.picture.specs.declared.Table.the-variants.{Jobs}
-use Rattle.picture.specs.Records.{timeout}
+use Rattle.picture.specs.Records.{timeout, timeout-field}
 use Rattle.picture.specs.Layout.{positions}
-use Rattle.turns.specs.Fields.{timeout-field, set-each}
+use Rattle.turns.specs.Fields.{set-each}
 use Rattle.turns.specs.Tick.{fallen, ticked}
 use Rattle.turns.proofs.Fields.{set-each-none, set-each-next, later-record-stays}
 use borrow.Author.Needs.{needs}
