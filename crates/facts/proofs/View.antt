@@ -1,38 +1,38 @@
 -- Soundness gives the facts, and the facts give soundness.
 use Prim.Native.Nat.{ℕ, _+_, _%_, _≤_, _<_}
-use mathlib.Core.Path.{_≡_, refl, sym, ap, _∙_, subst}
+use mathlib.Core.Path.{_≡_, refl, sym, subst}
 use mathlib.Core.Bool.{Bool, true, false, _&&_, _||_, not}
 use mathlib.Core.Logic.{⊎-elim, _⊎_, inl, inr}
 use mathlib.Core.List.{List}
 use native.Mathlib.Omega.{arith}
 use lib.ListN.{length}
-use lib.Dec.{leb, ltb, eqb}
+use lib.Dec.{leb, eqb}
 use borrow.Author.Tests.{leb-true, ltb-true, eqb-true, eqb-false, eq-eqb, ne-eqb, le-leb, lt-leb, lt-ltb, not-true}
 use Rattle.words.specs.Words.{word}
-use Rattle.words.specs.Each.{every, In}
-use Rattle.words.proofs.Tests.{both, either, failing, unless, false-true, lt-or-ge}
+use Rattle.words.specs.Each.{In}
+use Rattle.words.proofs.Tests.{both, either, failing, unless, lt-or-ge}
 use Rattle.words.proofs.Each.{every-at, every-by}
-use Rattle.picture.specs.Layout.{nobody, size-word, least-size, greatest-size, current-word, last-word, greatest-tag, heap-word, zero-word, heap-base, positions, width, upto}
-use Rattle.picture.specs.Records.{field, number, owner, base, priority, accumulated, timeout, waited-for, ending, used, ready}
+use Rattle.picture.specs.Layout.{nobody, size-word, least-size, greatest-size, current-word, greatest-tag, heap-word, heap-base, positions, width, upto}
+use Rattle.picture.specs.Records.{field, number, owner, accumulated, timeout, waited-for, used, ready}
 use Rattle.picture.specs.Numbers.{tag, position, live}
 use Rattle.picture.specs.declared.Table.{Table}
 use Rattle.picture.specs.declared.Table.the-variants.{Jobs, Channels}
 use Rattle.picture.specs.declared.Area.{Area}
 use Rattle.picture.specs.declared.Area.the-variants.{Heap, Transient}
 use Rattle.picture.proofs.Records.{used-below}
-use Rattle.blocks.specs.Header.{size, kind, kind-of, queue-kind, job-kind, free, holder, start, queue-length, queue-oldest, queue-count, queue-zero, rounded}
+use Rattle.blocks.specs.Header.{size, kind, kind-of, queue-kind, job-kind, free, holder}
 use Rattle.blocks.specs.Walk.{good, next, blocks}
-use Rattle.blocks.proofs.Walk.{Good, good-is, is-good}
+use Rattle.blocks.proofs.Walk.{good-is, is-good}
 use Rattle.matching.specs.Match.{area-of, first, claims, claimed, housed}
 use Rattle.matching.proofs.Matched.{Matched, matched, matched-housed, matched-claimed}
 use Rattle.records.specs.Rules.{may-be-unowned, zero-base, priority-within, accumulated-within, timeout-within, ends-in-one, blank, positioned, zero-exists, tag-within, tags-differ, tag-once, owner-live, owner-older, zero-unowned, tag-given, waits-well, idle-zero}
-use Rattle.picture.specs.Layout.{greatest-priority, hold, greatest-timeout}
-use Rattle.areas.specs.Rules.{longest-queue, length-whole, kind-known, start-zero, free-blank, queue-room, tiles, untouched, kind-fits, holder-live}
+use Rattle.picture.specs.Layout.{greatest-timeout}
+use Rattle.areas.specs.Rules.{length-whole, kind-known, start-zero, free-blank, queue-room, tiles, untouched, kind-fits, holder-live}
 use Rattle.sound.specs.Whole.{size-right, zero-right, heap-right, last-within, current-ready}
 use Rattle.sound.specs.Rule.{Rule}
 use Rattle.sound.specs.Sound.{sound}
 use Rattle.sound.proofs.Holds.{Holds, sound-holds, sound-by}
-use Rattle.facts.proofs.Sound.{Sizes, Queue, Waits, Owned, Entries, Jobs-fine, Channels-fine, Fits, Tiled, Current, Sound}
+use Rattle.facts.proofs.Sound.{Sizes, Queue, Waits, Owned, Entries, Jobs-fine, Channels-fine, Fits, Tiled, Sound}
 
 -- an entry with a block is in use
 pub claims-used : (p : List ℕ) (t : Table) (k : ℕ) → claims p t k ≡ true → used p t k ≡ true

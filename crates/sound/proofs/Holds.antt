@@ -3,7 +3,7 @@ use Prim.Native.Nat.{ℕ, _<_}
 use mathlib.Core.Path.{_≡_, refl}
 use mathlib.Core.Bool.{true}
 use mathlib.Core.List.{List, [], _∷_}
-use Rattle.words.specs.Each.{every, all, In}
+use Rattle.words.specs.Each.{all, In}
 use Rattle.words.proofs.Tests.{both}
 use Rattle.words.proofs.Each.{every-at, every-by, all-at, all-by}
 use Rattle.picture.specs.Layout.{positions}
