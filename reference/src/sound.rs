@@ -4,258 +4,177 @@ use std::ops::Range;
 
 use crate::picture::*;
 
-/// The rules of soundness, in the order in which the paper gives them.
+/// One of the two tables.
+#[derive(Clone, Copy, PartialEq, Eq, PartialOrd, Ord, Debug)]
+pub enum Table {
+    Jobs,
+    Channels,
+}
+
+/// The rules of soundness by name. A rule of both tables is a rule of each.
 ///
 /// N is the lent length. Position 0 of the job table is job 0. A job or channel is live if its mask bit is set.
 #[derive(Clone, Copy, PartialEq, Eq, PartialOrd, Ord, Debug)]
 pub enum Rule {
-    /// N is 1,024 to 16,384.
-    PictureLength,
-    /// N is a multiple of 4. (Never broken alone: the heap or the transient area can't be tiled then.)
-    PictureMultiple,
-    /// Longword 0 holds N.
-    LongwordZero,
+    /// "N of them: 1,024 to 16,384, a multiple of 4"; longword 0 holds N.
+    SizeRight,
     /// Longword 7 holds 0.
-    LongwordSeven,
-    /// H is a multiple of 4. (Never broken alone: the heap can't be tiled then.)
-    HeapMultiple,
-    /// H is at least 4.
-    HeapLength,
-    /// H leaves the transient area at least 4.
-    TransientLength,
-    /// The block base is 0 for job 0.
-    JobZeroBase,
-    /// A job's priority is 0 to 127.
-    Priority,
-    /// A job's accumulated is 0 to 8,191.
-    Accumulated,
-    /// A job's timeout is 0, -1 or 1 to 32,767.
-    Timeout,
-    /// A channel record's last longword is 1.
-    ChannelOne,
-    /// Unused job records are all zero.
-    UnusedJobRecords,
-    /// Unused channel records are all zero.
-    UnusedChannelRecords,
-    /// A job's number has the position at which its record stands.
-    JobPosition,
-    /// A channel's number has the position at which its record stands.
-    ChannelPosition,
-    /// Job 0 has number 0. (Broken alone by a tag.)
-    JobZeroNumber,
-    /// Job 0 always exists.
-    JobZeroExists,
-    /// Tags of jobs other than job 0 run from 1 to 32,767.
-    JobTag,
-    /// Tags of channels run from 1 to 32,767.
-    ChannelTag,
-    /// No tag is used by two jobs other than job 0.
-    JobTagTwice,
-    /// No tag is used by two channels.
-    ChannelTagTwice,
-    /// A block's whole length is a multiple of 16, at least 16.
-    BlockLength,
-    /// A block's kind is 0 to 3.
-    BlockKind,
-    /// A header's last longword is 0 but for a job.
-    StartAddress,
-    /// A free header is length, 0, 0, 0.
-    FreeHeader,
-    /// A queue's length n is 1 to 32,766.
-    QueueLength,
-    /// A queue's block is 32 + n rounded up to 16.
-    QueueBlock,
-    /// A queue's index of the oldest byte is below n.
-    QueueIndex,
-    /// A queue's count is 0 to n.
-    QueueCount,
-    /// The longword behind a queue's count is 0.
-    QueueZero,
-    /// Blocks tile each area exactly.
-    Tiling,
-    /// No two free blocks touch within an area.
-    FreeTouch,
-    /// Kinds 1 and 2 stand only in the heap.
-    HeapKinds,
-    /// Kind 3 stands only in the transient area.
-    TransientKind,
-    /// Each live job other than job 0 has a kind 3 block at its base, no two the same.
-    JobBlock,
-    /// Each kind 3 block is a job's.
-    BlockJob,
-    /// A job's record and its block have the same owner.
-    JobBlockOwner,
-    /// Each channel has a kind 2 block at its base, no two the same.
-    ChannelBlock,
-    /// Each kind 2 block is a channel's.
-    BlockChannel,
-    /// A channel's record and its block have the same owner.
-    ChannelBlockOwner,
-    /// A job's owner, in its record and in its block, is live or $FFFFFFFF.
-    JobOwner,
-    /// A channel's owner, in its record and in its block, is live.
-    ChannelOwner,
-    /// A plain block's owner is live.
-    PlainOwner,
-    /// A job's owner has a smaller tag. (Job 0 has the next rule to itself.)
-    OwnerTag,
-    /// Job 0 is unowned.
-    JobZeroOwner,
-    /// Tags of jobs don't pass the last given.
-    JobTagGiven,
-    /// Tags of channels don't pass the last given.
-    ChannelTagGiven,
-    /// The last job tag given is at most 32,767.
-    LastJobTag,
-    /// The last channel tag given is at most 32,767.
-    LastChannelTag,
-    /// Longword 1 is nobody or a ready job.
-    Current,
-    /// A job waits only for a live job other than 0 or itself.
-    WaitedFor,
-    /// A job waits only with timeout -1.
-    WaitTimeout,
-    /// Accumulated is 0 unless ready.
-    AccumulatedReady,
+    ZeroRight,
+    /// "H is a multiple of 4, at least 4, and leaves the transient area at least 4"
+    HeapRight,
+    /// "block base (0 for job 0)"
+    ZeroBase,
+    /// "priority 0 to 127", in every job record.
+    PriorityWithin,
+    /// "accumulated 0 to 8,191", in every job record.
+    AccumulatedWithin,
+    /// "timeout (signed: 0 not suspended, -1 without end, else 1 to 32,767 frames left)", in every job record.
+    TimeoutWithin,
+    /// "Channel record: number, owner, block base, 1"
+    EndsInOne,
+    /// "Unused records are all zero"
+    Blank(Table),
+    /// "A number is tag × 65,536 + position": the position at which its record stands.
+    Positioned(Table),
+    /// "Job 0 has number 0 and always exists"
+    ZeroExists,
+    /// "Other tags run from 1 to 32,767"
+    TagWithin(Table),
+    /// "none is used twice"
+    TagOnce(Table),
+    /// "whole length in bytes (a multiple of 16, at least 16)"
+    LengthWhole,
+    /// "kind 0 free, 1 plain, 2 queue, 3 job"
+    KindKnown,
+    /// "start address for a job, else 0"
+    StartZero,
+    /// "A free header is length, 0, 0, 0"
+    FreeBlank,
+    /// "A queue's room: length n (1 to 32,766, the block being 32 + n rounded up to 16), index of the oldest byte
+    /// (below n), count (0 to n), 0"
+    QueueRoom,
+    /// "blocks tile each area exactly"
+    Tiles,
+    /// "no two free blocks touch within an area"
+    Untouched,
+    /// "kinds 1 and 2 only in the heap, kind 3 only in the transient area"
+    KindFits,
+    /// "match one to one": a block of the table's kind is that of exactly one entry, its base and its owner.
+    Claimed(Table),
+    /// "match one to one": a live entry, but for job 0, has a block of the table's kind, at its base and with its owner.
+    Housed(Table),
+    /// "every owner is live, or $FFFFFFFF for a job": in records.
+    OwnerLive(Table),
+    /// "every owner is live, or $FFFFFFFF for a job": in blocks.
+    HolderLive,
+    /// "a job's owner has a smaller tag"
+    OwnerOlder,
+    /// "job 0 is unowned"
+    ZeroUnowned,
+    /// "tags don't pass the last given"
+    TagGiven(Table),
+    /// "the last given, which is at most 32,767"
+    LastWithin(Table),
+    /// "longword 1 is nobody or a ready job"
+    CurrentReady,
+    /// "a job waits only for a live job other than 0 or itself, and only with timeout -1"
+    WaitsWell,
+    /// "accumulated is 0 unless ready"
+    IdleZero,
 }
 
-impl Rule {
-    /// Every rule, in the paper's order.
-    #[rustfmt::skip]
-    pub const ALL: [Rule; 54] = {
-        use Rule::*;
-        [
-            PictureLength, PictureMultiple, LongwordZero, LongwordSeven, HeapMultiple, HeapLength, TransientLength,
-            JobZeroBase, Priority, Accumulated, Timeout, ChannelOne, UnusedJobRecords, UnusedChannelRecords,
-            JobPosition, ChannelPosition, JobZeroNumber, JobZeroExists, JobTag, ChannelTag, JobTagTwice,
-            ChannelTagTwice, BlockLength, BlockKind, StartAddress, FreeHeader, QueueLength, QueueBlock, QueueIndex,
-            QueueCount, QueueZero, Tiling, FreeTouch, HeapKinds, TransientKind, JobBlock, BlockJob, JobBlockOwner,
-            ChannelBlock, BlockChannel, ChannelBlockOwner, JobOwner, ChannelOwner, PlainOwner, OwnerTag, JobZeroOwner,
-            JobTagGiven, ChannelTagGiven, LastJobTag, LastChannelTag, Current, WaitedFor, WaitTimeout,
-            AccumulatedReady,
-        ]
-    };
+/// Whether a rule holds of a picture that has its tables.
+type Test = fn(&Reading) -> bool;
 
-    /// The rules that can't be broken alone.
-    pub const NEVER_ALONE: [Rule; 2] = [Rule::PictureMultiple, Rule::HeapMultiple];
-
-    /// Whether the rule holds of a picture that has its tables.
-    fn holds(self, reading: &Reading) -> bool {
-        let picture = reading.picture;
-        let n = picture.len();
-        let h = picture[HEAP_LENGTH] as usize;
-        match self {
-            Rule::PictureLength => (LEAST_LENGTH..=GREATEST_LENGTH).contains(&n),
-            Rule::PictureMultiple => n.is_multiple_of(STEP),
-            Rule::LongwordZero => picture[LENGTH] as usize == n,
-            Rule::LongwordSeven => picture[SPARE] == 0,
-            Rule::HeapMultiple => h.is_multiple_of(STEP),
-            Rule::HeapLength => h >= STEP,
-            Rule::TransientLength => HEAP + h + STEP <= n,
-
-            Rule::JobZeroBase => reading.jobs().all(|(k, record)| k > 0 || record[job::BASE] == 0),
-            Rule::Priority => reading.jobs().all(|(_, record)| record[job::PRIORITY] <= GREATEST_PRIORITY),
-            Rule::Accumulated => reading.jobs().all(|(_, record)| record[job::ACCUMULATED] <= HOLD),
-            Rule::Timeout => reading
-                .jobs()
-                .all(|(_, record)| (WITHOUT_END..=LONGEST_TIMEOUT).contains(&(record[job::TIMEOUT] as i32))),
-            Rule::ChannelOne => reading.channels().all(|(_, record)| record[channel::ONE] == 1),
-            Rule::UnusedJobRecords => reading.unused_jobs().all(|record| record.iter().all(|&longword| longword == 0)),
-            Rule::UnusedChannelRecords => {
-                reading.unused_channels().all(|record| record.iter().all(|&longword| longword == 0))
-            }
-
-            Rule::JobPosition => reading.jobs().all(|(k, record)| position(record[job::NUMBER]) == k),
-            Rule::ChannelPosition => reading.channels().all(|(k, record)| position(record[channel::NUMBER]) == k),
-            Rule::JobZeroNumber => reading.jobs().all(|(k, record)| k > 0 || record[job::NUMBER] == 0),
-            Rule::JobZeroExists => in_use(picture[JOB_MASK], 0),
-            Rule::JobTag => reading.job_tags().all(|tag| (1..=LAST_TAG).contains(&tag)),
-            Rule::ChannelTag => reading.channel_tags().all(|tag| (1..=LAST_TAG).contains(&tag)),
-            Rule::JobTagTwice => all_different(reading.job_tags()),
-            Rule::ChannelTagTwice => all_different(reading.channel_tags()),
-
-            Rule::BlockLength => reading.headers().all(|header| {
+/// Every rule with its test, in the paper's order.
+const RULES: [(Rule, Test); 41] = {
+    use Rule::*;
+    use Table::*;
+    [
+        (SizeRight, |r| crate::fresh::length_is_good(r.length()) && r.picture[LENGTH] as usize == r.length()),
+        (ZeroRight, |r| r.picture[SPARE] == 0),
+        (HeapRight, |r| {
+            let h = r.picture[HEAP_LENGTH] as usize;
+            h.is_multiple_of(STEP) && h >= STEP && HEAP + h + STEP <= r.length()
+        }),
+        (ZeroBase, |r| r.record(Jobs, 0)[job::BASE] == 0),
+        (PriorityWithin, |r| r.records(Jobs).all(|(_, record)| record[job::PRIORITY] <= GREATEST_PRIORITY)),
+        (AccumulatedWithin, |r| r.records(Jobs).all(|(_, record)| record[job::ACCUMULATED] <= HOLD)),
+        (TimeoutWithin, |r| {
+            r.records(Jobs).all(|(_, record)| (WITHOUT_END..=LONGEST_TIMEOUT).contains(&(record[job::TIMEOUT] as i32)))
+        }),
+        (EndsInOne, |r| r.entries(Channels).all(|(_, record)| record[channel::ONE] == 1)),
+        (Blank(Jobs), |r| r.is_blank(Jobs)),
+        (Blank(Channels), |r| r.is_blank(Channels)),
+        (Positioned(Jobs), |r| r.is_positioned(Jobs)),
+        (Positioned(Channels), |r| r.is_positioned(Channels)),
+        (ZeroExists, |r| in_use(r.picture[JOB_MASK], 0) && r.record(Jobs, 0)[NUMBER] == 0),
+        (TagWithin(Jobs), |r| r.tags(Jobs).all(|tag| (1..=LAST_TAG).contains(&tag))),
+        (TagWithin(Channels), |r| r.tags(Channels).all(|tag| (1..=LAST_TAG).contains(&tag))),
+        (TagOnce(Jobs), |r| all_different(r.tags(Jobs))),
+        (TagOnce(Channels), |r| all_different(r.tags(Channels))),
+        (LengthWhole, |r| {
+            r.headers().all(|header| {
                 header[block::LENGTH] >= block::HEADER_BYTES && header[block::LENGTH] % block::HEADER_BYTES == 0
-            }),
-            Rule::BlockKind => reading.headers().all(|header| header[block::KIND] <= block::JOB),
-            Rule::StartAddress => {
-                reading.headers().all(|header| header[block::KIND] == block::JOB || header[block::START] == 0)
-            }
-            Rule::FreeHeader => {
-                reading.headers().all(|header| header[block::KIND] != block::FREE || header[block::OWNER..] == [0, 0])
-            }
-            Rule::QueueLength => reading.queues().all(|(_, room)| (1..=queue::LONGEST).contains(&room[queue::LENGTH])),
-            Rule::QueueBlock => {
-                reading.blocks_of(block::QUEUE).all(|at| picture[at] >= queue::BEFORE_BYTES)
-                    && reading.queues().all(|(length, room)| u64::from(length) == queue_block(room[queue::LENGTH]))
-            }
-            Rule::QueueIndex => reading.queues().all(|(_, room)| room[queue::INDEX] < room[queue::LENGTH]),
-            Rule::QueueCount => reading.queues().all(|(_, room)| room[queue::COUNT] <= room[queue::LENGTH]),
-            Rule::QueueZero => reading.queues().all(|(_, room)| room[queue::ZERO] == 0),
+            })
+        }),
+        (KindKnown, |r| r.headers().all(|header| header[block::KIND] <= block::JOB)),
+        (StartZero, |r| r.headers().all(|header| header[block::KIND] == block::JOB || header[block::START] == 0)),
+        (FreeBlank, |r| {
+            r.headers().all(|header| header[block::KIND] != block::FREE || header[block::OWNER..] == [0, 0])
+        }),
+        (QueueRoom, |r| {
+            r.blocks_of(block::QUEUE).all(|at| queue_holds(r.picture[at], &r.picture[at + block::HEADER..]))
+        }),
+        (Tiles, |r| r.tiled),
+        (Untouched, |r| {
+            [&r.heap, &r.transient].iter().all(|headers| {
+                headers.windows(2).all(|pair| pair.iter().any(|at| r.picture[at + block::KIND] != block::FREE))
+            })
+        }),
+        (KindFits, |r| {
+            r.heap.iter().all(|at| r.picture[at + block::KIND] != block::JOB)
+                && r.transient.iter().all(|at| ![block::PLAIN, block::QUEUE].contains(&r.picture[at + block::KIND]))
+        }),
+        (Claimed(Jobs), |r| r.blocks_are_claimed(Jobs)),
+        (Housed(Jobs), |r| r.entries_are_housed(Jobs)),
+        (Claimed(Channels), |r| r.blocks_are_claimed(Channels)),
+        (Housed(Channels), |r| r.entries_are_housed(Channels)),
+        (OwnerLive(Jobs), |r| r.entries(Jobs).all(|(_, record)| record[OWNER] == NOBODY || r.is_live(record[OWNER]))),
+        (OwnerLive(Channels), |r| r.entries(Channels).all(|(_, record)| r.is_live(record[OWNER]))),
+        (HolderLive, |r| {
+            r.headers().all(|header| match header[block::KIND] {
+                block::FREE => true,
+                block::JOB if header[block::OWNER] == NOBODY => true,
+                _ => r.is_live(header[block::OWNER]),
+            })
+        }),
+        (OwnerOlder, |r| {
+            r.entries(Jobs).all(|(_, record)| record[OWNER] == NOBODY || tag(record[OWNER]) < tag(record[NUMBER]))
+        }),
+        (ZeroUnowned, |r| r.record(Jobs, 0)[OWNER] == NOBODY),
+        (TagGiven(Jobs), |r| r.tags_are_given(Jobs)),
+        (TagGiven(Channels), |r| r.tags_are_given(Channels)),
+        (LastWithin(Jobs), |r| r.picture[LAST_JOB_TAG] <= LAST_TAG),
+        (LastWithin(Channels), |r| r.picture[LAST_CHANNEL_TAG] <= LAST_TAG),
+        (CurrentReady, |r| current_holds(r.picture)),
+        (WaitsWell, |r| {
+            r.entries(Jobs).all(|(_, record)| {
+                let wait = record[job::WAIT];
+                wait == 0 || wait != record[NUMBER] && r.is_live(wait) && record[job::TIMEOUT] as i32 == WITHOUT_END
+            })
+        }),
+        (IdleZero, |r| {
+            r.entries(Jobs)
+                .all(|(_, record)| record[job::ACCUMULATED] == 0 || ready(record[job::PRIORITY], record[job::TIMEOUT]))
+        }),
+    ]
+};
 
-            Rule::Tiling => reading.tiled,
-            Rule::FreeTouch => [&reading.heap, &reading.transient].iter().all(|headers| {
-                headers.windows(2).all(|pair| pair.iter().any(|at| picture[at + block::KIND] != block::FREE))
-            }),
-            Rule::HeapKinds => {
-                reading.transient.iter().all(|at| ![block::PLAIN, block::QUEUE].contains(&picture[at + block::KIND]))
-            }
-            Rule::TransientKind => reading.heap.iter().all(|at| picture[at + block::KIND] != block::JOB),
-            Rule::JobBlock => reading.bases_are_blocks(reading.job_bases(), block::JOB),
-            Rule::BlockJob => {
-                reading.blocks_of(block::JOB).all(|at| reading.job_bases().any(|base| base == 4 * at as u32))
-            }
-            Rule::JobBlockOwner => reading.owners_are_equal(block::JOB, || {
-                reading.jobs().filter(|&(k, _)| k > 0).map(|(_, r)| (r[job::BASE], r[job::OWNER]))
-            }),
-            Rule::ChannelBlock => reading.bases_are_blocks(reading.channel_bases(), block::QUEUE),
-            Rule::BlockChannel => {
-                reading.blocks_of(block::QUEUE).all(|at| reading.channel_bases().any(|base| base == 4 * at as u32))
-            }
-            Rule::ChannelBlockOwner => reading.owners_are_equal(block::QUEUE, || {
-                reading.channels().map(|(_, r)| (r[channel::BASE], r[channel::OWNER]))
-            }),
-
-            Rule::JobOwner => reading
-                .jobs()
-                .map(|(_, record)| record[job::OWNER])
-                .chain(reading.block_owners(block::JOB))
-                .all(|owner| owner == NOBODY || reading.is_live(owner)),
-            Rule::ChannelOwner => reading
-                .channels()
-                .map(|(_, record)| record[channel::OWNER])
-                .chain(reading.block_owners(block::QUEUE))
-                .all(|owner| reading.is_live(owner)),
-            Rule::PlainOwner => reading.block_owners(block::PLAIN).all(|owner| reading.is_live(owner)),
-            Rule::OwnerTag => reading.jobs().all(|(k, record)| {
-                k == 0 || record[job::OWNER] == NOBODY || tag(record[job::OWNER]) < tag(record[job::NUMBER])
-            }),
-            Rule::JobZeroOwner => reading.jobs().all(|(k, record)| k > 0 || record[job::OWNER] == NOBODY),
-            Rule::JobTagGiven => reading.jobs().all(|(_, record)| tag(record[job::NUMBER]) <= picture[LAST_JOB_TAG]),
-            Rule::ChannelTagGiven => {
-                reading.channels().all(|(_, record)| tag(record[channel::NUMBER]) <= picture[LAST_CHANNEL_TAG])
-            }
-            Rule::LastJobTag => picture[LAST_JOB_TAG] <= LAST_TAG,
-            Rule::LastChannelTag => picture[LAST_CHANNEL_TAG] <= LAST_TAG,
-            Rule::Current => {
-                picture[CURRENT] == NOBODY
-                    || live_job(picture, JobNumber(picture[CURRENT])).is_some_and(|k| {
-                        let record = &picture[job_record(k)..];
-                        ready(record[job::PRIORITY], record[job::TIMEOUT])
-                    })
-            }
-            Rule::WaitedFor => reading.jobs().all(|(_, record)| {
-                record[job::WAIT] == 0 || record[job::WAIT] != record[job::NUMBER] && reading.is_live(record[job::WAIT])
-            }),
-            Rule::WaitTimeout => {
-                reading.jobs().all(|(_, record)| record[job::WAIT] == 0 || record[job::TIMEOUT] as i32 == WITHOUT_END)
-            }
-            Rule::AccumulatedReady => reading
-                .jobs()
-                .all(|(_, record)| record[job::ACCUMULATED] == 0 || ready(record[job::PRIORITY], record[job::TIMEOUT])),
-        }
-    }
-}
+/// The first three fields of a record, in both tables.
+const NUMBER: usize = 0;
+const OWNER: usize = 1;
+const BASE: usize = 2;
 
 /// The block length in bytes of a queue of n bytes.
 fn queue_block(n: u32) -> u64 {
@@ -287,44 +206,61 @@ impl<'a> Reading<'a> {
         Reading { picture, heap, transient, tiled: heap_tiled && transient_tiled }
     }
 
-    fn records(&self, start: usize, size: usize) -> impl Iterator<Item = (usize, &'a [u32])> + use<'a> {
+    fn length(&self) -> usize {
+        self.picture.len()
+    }
+
+    fn mask(&self, table: Table) -> u32 {
+        match table {
+            Table::Jobs => self.picture[JOB_MASK],
+            Table::Channels => self.picture[CHANNEL_MASK],
+        }
+    }
+
+    /// All records of a table with their positions.
+    fn records(&self, table: Table) -> impl Iterator<Item = (usize, &'a [u32])> + use<'a> {
+        let (start, size) = match table {
+            Table::Jobs => (JOB_RECORDS, JOB_RECORD),
+            Table::Channels => (CHANNEL_RECORDS, CHANNEL_RECORD),
+        };
         self.picture[start..start + POSITIONS * size].chunks_exact(size).enumerate()
     }
 
-    fn jobs(&self) -> impl Iterator<Item = (usize, &'a [u32])> + use<'a> {
-        let mask = self.picture[JOB_MASK];
-        self.records(JOB_RECORDS, JOB_RECORD).filter(move |&(k, _)| in_use(mask, k))
+    fn record(&self, table: Table, position: usize) -> &'a [u32] {
+        self.records(table).nth(position).unwrap_or_default().1
     }
 
-    fn channels(&self) -> impl Iterator<Item = (usize, &'a [u32])> + use<'a> {
-        let mask = self.picture[CHANNEL_MASK];
-        self.records(CHANNEL_RECORDS, CHANNEL_RECORD).filter(move |&(k, _)| in_use(mask, k))
+    /// The records in use.
+    fn entries(&self, table: Table) -> impl Iterator<Item = (usize, &'a [u32])> + use<'a> {
+        let mask = self.mask(table);
+        self.records(table).filter(move |&(k, _)| in_use(mask, k))
     }
 
-    fn unused_jobs(&self) -> impl Iterator<Item = &'a [u32]> + use<'a> {
-        let mask = self.picture[JOB_MASK];
-        self.records(JOB_RECORDS, JOB_RECORD).filter(move |&(k, _)| !in_use(mask, k)).map(|(_, record)| record)
+    /// The records in use but for job 0's, which has no block and no tag of the series.
+    fn numbered(&self, table: Table) -> impl Iterator<Item = &'a [u32]> + use<'a> {
+        let first = usize::from(table == Table::Jobs);
+        self.entries(table).filter(move |&(k, _)| k >= first).map(|(_, record)| record)
     }
 
-    fn unused_channels(&self) -> impl Iterator<Item = &'a [u32]> + use<'a> {
-        let mask = self.picture[CHANNEL_MASK];
-        self.records(CHANNEL_RECORDS, CHANNEL_RECORD).filter(move |&(k, _)| !in_use(mask, k)).map(|(_, record)| record)
+    fn tags(&self, table: Table) -> impl Iterator<Item = u32> + use<'a> {
+        self.numbered(table).map(|record| tag(record[NUMBER]))
     }
 
-    fn job_tags(&self) -> impl Iterator<Item = u32> + use<'a> {
-        self.jobs().filter(|&(k, _)| k > 0).map(|(_, record)| tag(record[job::NUMBER]))
+    fn is_blank(&self, table: Table) -> bool {
+        let mask = self.mask(table);
+        self.records(table).all(|(k, record)| in_use(mask, k) || record.iter().all(|&longword| longword == 0))
     }
 
-    fn channel_tags(&self) -> impl Iterator<Item = u32> + use<'a> {
-        self.channels().map(|(_, record)| tag(record[channel::NUMBER]))
+    fn is_positioned(&self, table: Table) -> bool {
+        self.entries(table).all(|(k, record)| position(record[NUMBER]) == k)
     }
 
-    fn job_bases(&self) -> impl Iterator<Item = u32> + use<'a> {
-        self.jobs().filter(|&(k, _)| k > 0).map(|(_, record)| record[job::BASE])
-    }
-
-    fn channel_bases(&self) -> impl Iterator<Item = u32> + use<'a> {
-        self.channels().map(|(_, record)| record[channel::BASE])
+    fn tags_are_given(&self, table: Table) -> bool {
+        let last = match table {
+            Table::Jobs => self.picture[LAST_JOB_TAG],
+            Table::Channels => self.picture[LAST_CHANNEL_TAG],
+        };
+        self.entries(table).all(|(_, record)| tag(record[NUMBER]) <= last)
     }
 
     fn header_places(&self) -> impl Iterator<Item = usize> + '_ {
@@ -339,28 +275,25 @@ impl<'a> Reading<'a> {
         self.header_places().filter(move |at| self.picture[at + block::KIND] == kind)
     }
 
-    fn block_owners(&self, kind: u32) -> impl Iterator<Item = u32> + '_ {
-        self.blocks_of(kind).map(|at| self.picture[at + block::OWNER])
-    }
-
-    /// The whole length and the room of each queue block that has room for a queue's four longwords.
-    fn queues(&self) -> impl Iterator<Item = (u32, &'a [u32])> + '_ {
-        self.blocks_of(block::QUEUE)
-            .map(|at| (self.picture[at], &self.picture[at + block::HEADER..]))
-            .filter(|(length, room)| *length >= queue::BEFORE_BYTES && room.len() >= queue::BYTES)
-    }
-
-    fn bases_are_blocks(&self, bases: impl Iterator<Item = u32>, kind: u32) -> bool {
-        let mut blocks: Vec<u32> = self.blocks_of(kind).map(|at| 4 * at as u32).collect();
-        bases.into_iter().all(|base| match blocks.iter().position(|&at| at == base) {
-            Some(found) => (blocks.swap_remove(found), true).1,
-            None => false,
+    /// The blocks of the table's kind.
+    fn homes(&self, table: Table) -> impl Iterator<Item = usize> + '_ {
+        self.blocks_of(match table {
+            Table::Jobs => block::JOB,
+            Table::Channels => block::QUEUE,
         })
     }
 
-    fn owners_are_equal<I: Iterator<Item = (u32, u32)>>(&self, kind: u32, records: impl Fn() -> I) -> bool {
-        self.blocks_of(kind)
-            .all(|at| records().all(|(base, owner)| base != 4 * at as u32 || owner == self.picture[at + block::OWNER]))
+    /// Whether the block at this place is that of a record: its base is the header's first byte, and owners are equal.
+    fn pair(&self, record: &[u32], at: usize) -> bool {
+        record[BASE] == 4 * at as u32 && record[OWNER] == self.picture[at + block::OWNER]
+    }
+
+    fn blocks_are_claimed(&self, table: Table) -> bool {
+        self.homes(table).all(|at| self.numbered(table).filter(|record| self.pair(record, at)).count() == 1)
+    }
+
+    fn entries_are_housed(&self, table: Table) -> bool {
+        self.numbered(table).all(|record| self.homes(table).any(|at| self.pair(record, at)))
     }
 
     fn is_live(&self, number: u32) -> bool {
@@ -386,19 +319,19 @@ fn headers_of(picture: &[u32], area: Range<usize>) -> (Vec<usize>, bool) {
 /// Every broken rule, in the paper's order. A picture too short for its tables breaks the first rule only.
 pub fn broken(picture: &[u32]) -> Vec<Rule> {
     if picture.len() < HEAP {
-        return vec![Rule::PictureLength];
+        return vec![Rule::SizeRight];
     }
     let reading = Reading::new(picture);
-    Rule::ALL.into_iter().filter(|rule| !rule.holds(&reading)).collect()
+    RULES.iter().filter(|(_, holds)| !holds(&reading)).map(|&(rule, _)| rule).collect()
 }
 
 /// The first broken rule in the paper's order, or none where the picture is sound.
 pub fn first_broken(picture: &[u32]) -> Option<Rule> {
     if picture.len() < HEAP {
-        return Some(Rule::PictureLength);
+        return Some(Rule::SizeRight);
     }
     let reading = Reading::new(picture);
-    Rule::ALL.into_iter().find(|rule| !rule.holds(&reading))
+    RULES.iter().find(|(_, holds)| !holds(&reading)).map(|&(rule, _)| rule)
 }
 
 /// Whether the picture is sound: one walk of each area and one pass over each table.
@@ -655,24 +588,25 @@ mod tests {
     #[test]
     fn each_rule_is_broken_alone_by_hand() {
         use Rule::*;
+        use Table::*;
         let without_end = WITHOUT_END as u32;
         let cases: &[(Rule, &[(usize, u32)])] = &[
-            (LongwordZero, &[(LENGTH, 1_028)]),
-            (LongwordSeven, &[(SPARE, 1)]),
-            (JobZeroBase, &[(job_record(0) + job::BASE, 16)]),
-            (Priority, &[(child(job::PRIORITY), 128)]),
-            (Accumulated, &[(job_record(0) + job::ACCUMULATED, 8_192)]),
-            (Timeout, &[(child(job::TIMEOUT), 32_768)]),
-            (Timeout, &[(child(job::TIMEOUT), 0xFFFF_FFFE)]),
-            (Timeout, &[(child(job::TIMEOUT), 0x8000_0000)]),
-            (ChannelOne, &[(channel_record(0) + channel::ONE, 0)]),
-            (UnusedJobRecords, &[(job_record(3) + job::KEY, 1)]),
-            (UnusedJobRecords, &[(job_record(31), 1)]),
-            (UnusedChannelRecords, &[(channel_record(31) + channel::ONE, 1)]),
-            (JobPosition, &[(child(job::NUMBER), 0x0001_0003), (channel_record(0) + 1, 0), (400 + 2, 0)]),
-            (ChannelPosition, &[(channel_record(0), 0x0001_0001)]),
+            (SizeRight, &[(LENGTH, 1_028)]),
+            (ZeroRight, &[(SPARE, 1)]),
+            (ZeroBase, &[(job_record(0) + job::BASE, 16)]),
+            (PriorityWithin, &[(child(job::PRIORITY), 128)]),
+            (AccumulatedWithin, &[(job_record(0) + job::ACCUMULATED, 8_192)]),
+            (TimeoutWithin, &[(child(job::TIMEOUT), 32_768)]),
+            (TimeoutWithin, &[(child(job::TIMEOUT), 0xFFFF_FFFE)]),
+            (TimeoutWithin, &[(child(job::TIMEOUT), 0x8000_0000)]),
+            (EndsInOne, &[(channel_record(0) + channel::ONE, 0)]),
+            (Blank(Jobs), &[(job_record(3) + job::KEY, 1)]),
+            (Blank(Jobs), &[(job_record(31), 1)]),
+            (Blank(Channels), &[(channel_record(31) + channel::ONE, 1)]),
+            (Positioned(Jobs), &[(child(job::NUMBER), 0x0001_0003), (channel_record(0) + 1, 0), (400 + 2, 0)]),
+            (Positioned(Channels), &[(channel_record(0), 0x0001_0001)]),
             (
-                JobZeroNumber,
+                ZeroExists,
                 &[
                     (8, 0x0001_0000),
                     (CURRENT, 0x0001_0000),
@@ -681,8 +615,100 @@ mod tests {
                     (648 + 2, NOBODY),
                 ],
             ),
+            (TagWithin(Jobs), &[(stranger(job::NUMBER), 2)]),
+            (TagWithin(Channels), &[(channel_record(0), 0)]),
+            (TagOnce(Jobs), &[(stranger(job::NUMBER), 0x0001_0002)]),
             (
-                JobZeroExists,
+                TagOnce(Channels),
+                &[
+                    (CHANNEL_MASK, 3),
+                    (268, 0x0001_0001),
+                    (269, JOB_1),
+                    (270, 4 * 412),
+                    (271, 1),
+                    (412, 48),
+                    (413, 2),
+                    (414, JOB_1),
+                    (416, 5),
+                    (424, 896),
+                ],
+            ),
+            (LengthWhole, &[(656, 40), (666, 1_432), (668, 0)]),
+            (KindKnown, &[(392 + 1, 4)]),
+            (StartZero, &[(392 + 3, 1)]),
+            (StartZero, &[(400 + 3, 1)]),
+            (FreeBlank, &[(412 + 2, 1)]),
+            (QueueRoom, &[(404, 17)]),
+            (QueueRoom, &[(404, 32_766)]),
+            (QueueRoom, &[(405, 5)]),
+            (QueueRoom, &[(406, 6)]),
+            (QueueRoom, &[(407, 1)]),
+            (Tiles, &[(412, 960)]),
+            (Tiles, &[(668, 1_440)]),
+            (Untouched, &[(412, 16), (416, 928)]),
+            (Untouched, &[(668, 1_408), (1_020, 16)]),
+            (KindFits, &[(668 + 1, 1)]),
+            (KindFits, &[(412 + 1, 3), (JOB_MASK, 15), (32, 0x0003_0003), (34, 1_648), (LAST_JOB_TAG, 3)]),
+            (Housed(Jobs), &[(JOB_MASK, 15), (32, 0x0003_0003), (34, 0), (LAST_JOB_TAG, 3)]),
+            (Claimed(Jobs), &[(JOB_MASK, 15), (32, 0x0003_0003), (34, 4 * 648), (LAST_JOB_TAG, 3)]),
+            (Claimed(Jobs), &[(668 + 1, 3)]),
+            (
+                Claimed(Channels),
+                &[(CHANNEL_MASK, 3), (268, 0x0002_0001), (269, JOB_1), (270, 1_600), (271, 1), (LAST_CHANNEL_TAG, 2)],
+            ),
+            (Housed(Channels), &[(CHANNEL_MASK, 3), (268, 0x0002_0001), (269, 0), (271, 1), (LAST_CHANNEL_TAG, 2)]),
+            (Claimed(Channels), &[(412 + 1, 2), (416, 900)]),
+            (HolderLive, &[(392 + 2, NOBODY)]),
+            (HolderLive, &[(392 + 2, 0x0002_0001)]),
+            (OwnerOlder, &[(child(job::OWNER), JOB_2), (648 + 2, JOB_2)]),
+            (OwnerOlder, &[(child(job::OWNER), JOB_1), (648 + 2, JOB_1)]),
+            (TagGiven(Jobs), &[(LAST_JOB_TAG, 1)]),
+            (TagGiven(Channels), &[(LAST_CHANNEL_TAG, 0)]),
+            (LastWithin(Jobs), &[(LAST_JOB_TAG, 32_768)]),
+            (LastWithin(Channels), &[(LAST_CHANNEL_TAG, 0x8000_0000)]),
+            (CurrentReady, &[(CURRENT, JOB_1)]),
+            (CurrentReady, &[(CURRENT, 0x0001_0000)]),
+            (CurrentReady, &[(CURRENT, 0xFFFF)]),
+            (WaitsWell, &[(child(job::WAIT), JOB_1), (child(job::TIMEOUT), without_end)]),
+            (WaitsWell, &[(child(job::WAIT), 0x0001_0002), (child(job::TIMEOUT), without_end)]),
+            (WaitsWell, &[(child(job::WAIT), JOB_2)]),
+            (WaitsWell, &[(child(job::WAIT), JOB_2), (child(job::TIMEOUT), 5)]),
+            (IdleZero, &[(child(job::ACCUMULATED), 1)]),
+            (IdleZero, &[(child(job::PRIORITY), 5), (child(job::TIMEOUT), 5), (child(job::ACCUMULATED), 1)]),
+        ];
+        for (rule, changes) in cases {
+            let mut picture = furnished();
+            changes.iter().for_each(|&(place, longword)| picture[place] = longword);
+            assert_eq!(broken(&picture), [*rule], "{changes:?}");
+            assert!(!is_sound(&picture), "{rule:?} {changes:?}");
+        }
+        for (rule, _) in RULES {
+            let alone = rule == HeapRight || cases.iter().any(|case| case.0 == rule);
+            assert_ne!(alone, NEVER_ALONE.contains(&rule), "{rule:?}");
+        }
+    }
+
+    #[test]
+    fn the_heap_can_be_too_short_or_too_long() {
+        for heap_length in [0, 632] {
+            let mut picture = fresh_picture(1_024, 256);
+            picture[HEAP_LENGTH] = heap_length;
+            picture[HEAP] = 4 * 632;
+            assert_eq!(broken(&picture), [Rule::HeapRight]);
+            assert!(!is_sound(&picture));
+        }
+    }
+
+    /// The rules that can't be broken alone: whoever owns a record owns its block, and no tag is smaller than job 0's.
+    const NEVER_ALONE: [Rule; 3] = [Rule::OwnerLive(Table::Jobs), Rule::OwnerLive(Table::Channels), Rule::ZeroUnowned];
+
+    #[test]
+    fn rules_that_are_broken_together() {
+        use Rule::*;
+        use Table::*;
+        let together: &[(&[Rule], &[(usize, u32)])] = &[
+            (
+                &[ZeroExists, ZeroUnowned],
                 &[
                     (9, 0),
                     (11, 0),
@@ -693,65 +719,23 @@ mod tests {
                     (648 + 2, NOBODY),
                 ],
             ),
-            (JobTag, &[(stranger(job::NUMBER), 2)]),
-            (ChannelTag, &[(channel_record(0), 0)]),
-            (JobTagTwice, &[(stranger(job::NUMBER), 0x0001_0002)]),
-            (BlockLength, &[(656, 40), (666, 1_432), (668, 0)]),
-            (BlockKind, &[(392 + 1, 4)]),
-            (StartAddress, &[(392 + 3, 1)]),
-            (StartAddress, &[(400 + 3, 1)]),
-            (FreeHeader, &[(412 + 2, 1)]),
-            (QueueBlock, &[(404, 17)]),
-            (QueueBlock, &[(404, 32_766)]),
-            (QueueIndex, &[(405, 5)]),
-            (QueueCount, &[(406, 6)]),
-            (QueueZero, &[(407, 1)]),
-            (Tiling, &[(412, 960)]),
-            (Tiling, &[(668, 1_440)]),
-            (FreeTouch, &[(412, 16), (416, 928)]),
-            (FreeTouch, &[(668, 1_408), (1_020, 16)]),
-            (HeapKinds, &[(668 + 1, 1)]),
-            (TransientKind, &[(412 + 1, 3), (JOB_MASK, 15), (32, 0x0003_0003), (34, 1_648), (LAST_JOB_TAG, 3)]),
-            (JobBlock, &[(JOB_MASK, 15), (32, 0x0003_0003), (34, 0), (LAST_JOB_TAG, 3)]),
-            (JobBlock, &[(JOB_MASK, 15), (32, 0x0003_0003), (34, 4 * 648), (LAST_JOB_TAG, 3)]),
-            (BlockJob, &[(668 + 1, 3)]),
-            (JobBlockOwner, &[(648 + 2, NOBODY)]),
-            (JobBlockOwner, &[(stranger(job::OWNER), 0)]),
-            (
-                ChannelBlock,
-                &[(CHANNEL_MASK, 3), (268, 0x0002_0001), (269, JOB_1), (270, 1_600), (271, 1), (LAST_CHANNEL_TAG, 2)],
-            ),
-            (ChannelBlock, &[(CHANNEL_MASK, 3), (268, 0x0002_0001), (269, 0), (271, 1), (LAST_CHANNEL_TAG, 2)]),
-            (BlockChannel, &[(412 + 1, 2), (416, 900)]),
-            (ChannelBlockOwner, &[(400 + 2, 0)]),
-            (ChannelBlockOwner, &[(channel_record(0) + 1, JOB_2)]),
-            (JobOwner, &[(stranger(job::OWNER), 0x0001_0002), (656 + 2, 0x0001_0002)]),
-            (ChannelOwner, &[(channel_record(0) + 1, NOBODY), (400 + 2, NOBODY)]),
-            (PlainOwner, &[(392 + 2, NOBODY)]),
-            (PlainOwner, &[(392 + 2, 0x0002_0001)]),
-            (OwnerTag, &[(child(job::OWNER), JOB_2), (648 + 2, JOB_2)]),
-            (OwnerTag, &[(child(job::OWNER), JOB_1), (648 + 2, JOB_1)]),
-            (JobZeroOwner, &[(9, JOB_1)]),
-            (JobZeroOwner, &[(9, 0)]),
-            (JobTagGiven, &[(LAST_JOB_TAG, 1)]),
-            (ChannelTagGiven, &[(LAST_CHANNEL_TAG, 0)]),
-            (LastJobTag, &[(LAST_JOB_TAG, 32_768)]),
-            (LastChannelTag, &[(LAST_CHANNEL_TAG, 0x8000_0000)]),
-            (Current, &[(CURRENT, JOB_1)]),
-            (Current, &[(CURRENT, 0x0001_0000)]),
-            (Current, &[(CURRENT, 0xFFFF)]),
-            (WaitedFor, &[(child(job::WAIT), JOB_1), (child(job::TIMEOUT), without_end)]),
-            (WaitedFor, &[(child(job::WAIT), 0x0001_0002), (child(job::TIMEOUT), without_end)]),
-            (WaitTimeout, &[(child(job::WAIT), JOB_2)]),
-            (WaitTimeout, &[(child(job::WAIT), JOB_2), (child(job::TIMEOUT), 5)]),
-            (AccumulatedReady, &[(child(job::ACCUMULATED), 1)]),
-            (AccumulatedReady, &[(child(job::PRIORITY), 5), (child(job::TIMEOUT), 5), (child(job::ACCUMULATED), 1)]),
+            (&[Claimed(Jobs), Housed(Jobs)], &[(648 + 2, NOBODY)]),
+            (&[Claimed(Jobs), Housed(Jobs)], &[(stranger(job::OWNER), 0)]),
+            (&[Claimed(Channels), Housed(Channels)], &[(400 + 2, 0)]),
+            (&[Claimed(Channels), Housed(Channels)], &[(channel_record(0) + 1, JOB_2)]),
+            (&[OwnerLive(Jobs), HolderLive], &[(stranger(job::OWNER), 0x0001_0002), (656 + 2, 0x0001_0002)]),
+            (&[OwnerLive(Channels), HolderLive], &[(channel_record(0) + 1, NOBODY), (400 + 2, NOBODY)]),
+            (&[OwnerOlder, ZeroUnowned], &[(9, JOB_1)]),
+            (&[OwnerOlder, ZeroUnowned], &[(9, 0)]),
         ];
-        for (rule, changes) in cases {
+        for (rules, changes) in together {
             let mut picture = furnished();
             changes.iter().for_each(|&(place, longword)| picture[place] = longword);
-            assert_eq!(broken(&picture), [*rule], "{changes:?}");
-            assert!(!is_sound(&picture), "{rule:?} {changes:?}");
+            assert_eq!(broken(&picture), *rules, "{changes:?}");
+            assert!(!is_sound(&picture), "{rules:?} {changes:?}");
+        }
+        for rule in NEVER_ALONE {
+            assert!(together.iter().any(|case| case.0.contains(&rule)), "{rule:?}");
         }
     }
 
@@ -808,7 +792,7 @@ mod tests {
         too_great.resize(16_388, 0);
         too_great[LENGTH] = 16_388;
         too_great[648] += 16;
-        assert_eq!(broken(&too_great), [Rule::PictureLength]);
+        assert_eq!(broken(&too_great), [Rule::SizeRight]);
         assert!(!is_sound(&too_great));
         for filling in [0, 1, NOBODY] {
             assert!(!is_sound(&vec![filling; 1_024]));
@@ -820,18 +804,25 @@ mod tests {
         let mut picture = furnished();
         picture.push(0);
         picture[LENGTH] += 1;
-        assert_eq!(first_broken(&picture), Some(Rule::PictureMultiple));
-        for (heap_length, rule) in [
-            (257, Rule::HeapMultiple),
-            (0, Rule::HeapLength),
-            (632, Rule::TransientLength),
-            (636, Rule::TransientLength),
-            (0xFFFF_FFFC, Rule::TransientLength),
-        ] {
+        assert_eq!(first_broken(&picture), Some(Rule::SizeRight));
+        for heap_length in [257, 0, 632, 636, 0xFFFF_FFFC] {
             let mut picture = furnished();
             picture[HEAP_LENGTH] = heap_length;
-            assert_eq!(first_broken(&picture), Some(rule));
+            assert_eq!(first_broken(&picture), Some(Rule::HeapRight));
             assert!(!is_sound(&picture));
+        }
+    }
+
+    #[test]
+    fn limits_are_those_of_unused_records_too() {
+        for (field, rule) in [
+            (job::PRIORITY, Rule::PriorityWithin),
+            (job::ACCUMULATED, Rule::AccumulatedWithin),
+            (job::TIMEOUT, Rule::TimeoutWithin),
+        ] {
+            let mut picture = furnished();
+            picture[job_record(31) + field] = 0x8000_0000;
+            assert_eq!(broken(&picture), [rule, Rule::Blank(Table::Jobs)]);
         }
     }
 
@@ -843,12 +834,13 @@ mod tests {
             let picture = make::changed_picture(&mut random);
             let first = first_broken(&picture);
             assert_eq!(is_sound(&picture), first.is_none(), "{first:?}");
+            assert_eq!(first, broken(&picture).first().copied());
             sound += u32::from(first.is_none());
         }
         assert!((3_000..57_000).contains(&sound), "{sound} of 60,000 were sound");
-        for rule in Rule::ALL.into_iter().filter(|rule| !Rule::NEVER_ALONE.contains(rule)) {
-            for _ in 0..40 {
-                assert!(!is_sound(&make::picture_breaking(&mut random, rule)), "{rule:?}");
+        for (damage, rules) in make::damage::DAMAGES {
+            for _ in (0..40).filter(|_| !make::damage::NEVER_ALONE.contains(&damage)) {
+                assert!(!is_sound(&make::damaged_picture(&mut random, damage, rules)), "{damage:?}");
             }
         }
     }

@@ -1,37 +1,38 @@
 -- Soundness gives the facts, and the facts give soundness.
 use Prim.Native.Nat.{ℕ, _+_, _%_, _≤_, _<_}
-use mathlib.Core.Path.{_≡_, refl, sym, ap, _∙_, subst}
+use mathlib.Core.Path.{_≡_, refl, sym, subst}
 use mathlib.Core.Bool.{Bool, true, false, _&&_, _||_, not}
 use mathlib.Core.Logic.{⊎-elim, _⊎_, inl, inr}
 use mathlib.Core.List.{List}
 use native.Mathlib.Omega.{arith}
 use lib.ListN.{length}
-use lib.Dec.{leb, ltb, eqb}
+use lib.Dec.{leb, eqb}
 use borrow.Author.Tests.{leb-true, ltb-true, eqb-true, eqb-false, eq-eqb, ne-eqb, le-leb, lt-leb, lt-ltb, not-true}
 use Rattle.words.specs.Words.{word}
-use Rattle.words.specs.Each.{every, In}
-use Rattle.words.proofs.Tests.{both, either, failing, unless, false-true, lt-or-ge}
+use Rattle.words.specs.Each.{In}
+use Rattle.words.proofs.Tests.{both, either, failing, unless, lt-or-ge}
 use Rattle.words.proofs.Each.{every-at, every-by}
-use Rattle.picture.specs.Layout.{nobody, size-word, least-size, greatest-size, current-word, last-word, greatest-tag, heap-word, zero-word, heap-base, positions, width, upto}
-use Rattle.picture.specs.Records.{field, number, owner, base, priority, accumulated, timeout, waited-for, ending, used, ready}
+use Rattle.picture.specs.Layout.{nobody, size-word, least-size, greatest-size, current-word, greatest-tag, heap-word, heap-base, positions, width, upto}
+use Rattle.picture.specs.Records.{field, number, owner, accumulated, timeout, waited-for, used, ready}
 use Rattle.picture.specs.Numbers.{tag, position, live}
 use Rattle.picture.specs.declared.Table.{Table}
 use Rattle.picture.specs.declared.Table.the-variants.{Jobs, Channels}
 use Rattle.picture.specs.declared.Area.{Area}
 use Rattle.picture.specs.declared.Area.the-variants.{Heap, Transient}
 use Rattle.picture.proofs.Records.{used-below}
-use Rattle.blocks.specs.Header.{size, kind, kind-of, queue-kind, job-kind, free, holder, start, queue-length, queue-oldest, queue-count, queue-zero, rounded}
+use Rattle.blocks.specs.Header.{size, kind, kind-of, queue-kind, job-kind, free, holder}
 use Rattle.blocks.specs.Walk.{good, next, blocks}
-use Rattle.blocks.proofs.Walk.{Good, good-is, is-good}
+use Rattle.blocks.proofs.Walk.{good-is, is-good}
 use Rattle.matching.specs.Match.{area-of, first, claims, claimed, housed}
 use Rattle.matching.proofs.Matched.{Matched, matched, matched-housed, matched-claimed}
 use Rattle.records.specs.Rules.{may-be-unowned, zero-base, priority-within, accumulated-within, timeout-within, ends-in-one, blank, positioned, zero-exists, tag-within, tags-differ, tag-once, owner-live, owner-older, zero-unowned, tag-given, waits-well, idle-zero}
-use Rattle.picture.specs.Layout.{greatest-priority, hold, greatest-timeout}
-use Rattle.areas.specs.Rules.{longest-queue, length-whole, kind-known, start-zero, free-blank, queue-room, tiles, untouched, kind-fits, holder-live}
+use Rattle.picture.specs.Layout.{greatest-timeout}
+use Rattle.areas.specs.Rules.{length-whole, kind-known, start-zero, free-blank, queue-room, tiles, untouched, kind-fits, holder-live}
 use Rattle.sound.specs.Whole.{size-right, zero-right, heap-right, last-within, current-ready}
-use Rattle.sound.specs.Sound.{rules, sound}
-use Rattle.sound.proofs.Holds.{Holds, AllHold, nth, sound-holds, sound-by}
-use Rattle.facts.proofs.Sound.{Sizes, Queue, Waits, Owned, Entries, Jobs-fine, Channels-fine, Fits, Tiled, Current, Sound}
+use Rattle.sound.specs.Rule.{Rule}
+use Rattle.sound.specs.Sound.{sound}
+use Rattle.sound.proofs.Holds.{Holds, sound-holds, sound-by}
+use Rattle.facts.proofs.Sound.{Sizes, Queue, Waits, Owned, Entries, Jobs-fine, Channels-fine, Fits, Tiled, Sound}
 
 -- an entry with a block is in use
 pub claims-used : (p : List ℕ) (t : Table) (k : ℕ) → claims p t k ≡ true → used p t k ≡ true
@@ -40,6 +41,27 @@ claims-used p t k h = both (leb (first t) k) (used p t k) h .1
 
 -- from a test to its fact, rule by rule
 module _ (p : List ℕ) where
+  sizes-by : size-right p ≡ true → zero-right p ≡ true → heap-right p ≡ true → ((t : Table) → last-within t p ≡ true) → Sizes p
+  unfolding size-right zero-right heap-right last-within
+  sizes-by size nought heap last =
+      let a = both (eqb (word p size-word) (length p)) _ size in
+      let b = both (leb least-size (length p)) _ (a .1) in
+      let c = both (leb (length p) greatest-size) _ (b .1) in
+      let d = both (eqb (word p heap-word % 4) 0) _ heap in
+      let e = both (leb 4 (word p heap-word)) _ (d .1) in
+      let long = eqb-true (word p size-word) (length p) (a .0) in
+      record {
+        long = long;
+        least = leb-true _ _ (b .0);
+        most = leb-true _ _ (c .0);
+        fours = eqb-true _ _ (c .1);
+        heap-fours = eqb-true _ _ (d .0);
+        heap-least = leb-true _ _ (e .0);
+        heap-most = subst (λ (n : ℕ). heap-base + word p heap-word + 4 ≤ n) long (leb-true _ _ (e .1));
+        nought = eqb-true _ _ nought;
+        last = λ t. leb-true _ _ (last t);
+      }
+
   unused-by : (t : Table) (k f : ℕ) → blank p t k ≡ true → f < width t → used p t k ≡ false → field p t k f ≡ 0
   unfolding blank
   unused-by t k f h l u = eqb-true _ _ (every-at (λ (g : ℕ). eqb (field p t k g) 0) (width t) (failing _ _ h u) f l)
@@ -132,47 +154,33 @@ module _ (p : List ℕ) where
 
 -- a sound picture has all these facts
 pub view : (p : List ℕ) → sound p ≡ true → Sound p
-unfolding size-right zero-right heap-right last-within current-ready zero-base priority-within accumulated-within timeout-within ends-in-one zero-exists owner-older zero-unowned idle-zero
+unfolding current-ready zero-base priority-within accumulated-within timeout-within ends-in-one zero-exists owner-older zero-unowned idle-zero
 view p s =
-    let h : (n : ℕ) → Holds p (nth n rules) = sound-holds p s in
-    let z = both _ _ (h 0) in
-    let z1 = both _ _ (z .1) in
-    let z2 = both _ _ (z1 .1) in
-    let y = both _ _ (h 2) in
-    let y1 = both _ _ (y .1) in
-    let x = both _ _ (unless (eqb 0 0) _ (h 12 0 (omega arith)) refl) in
+    let h = sound-holds p s in
+    let zero = both _ _ (unless (eqb 0 0) _ (h Rule.zero-exists 0 (omega arith)) refl) in
+    let entries : (t : Table) → Entries p t = λ t. entries-by p t (h (Rule.blank t)) (h (Rule.positioned t)) (h (Rule.tag-within t)) (h (Rule.tag-once t)) (h (Rule.owner-live t)) (h (Rule.tag-given t)) in
     record {
-      sizes = record {
-        long = eqb-true _ _ (z .0);
-        least = leb-true _ _ (z1 .0);
-        most = leb-true _ _ (z2 .0);
-        fours = eqb-true _ _ (z2 .1);
-        heap-fours = eqb-true _ _ (y .0);
-        heap-least = leb-true _ _ (y1 .0);
-        heap-most = subst (λ (n : ℕ). heap-base + word p heap-word + 4 ≤ n) (eqb-true (word p size-word) (length p) (z .0)) (leb-true _ _ (y1 .1));
-        nought = eqb-true _ _ (h 1);
-        last = elim [ Jobs ↦ leb-true _ _ (h 36) | Channels ↦ leb-true _ _ (h 37) ];
-      };
+      sizes = sizes-by p (h Rule.size-right) (h Rule.zero-right) (h Rule.heap-right) (λ t. h (Rule.last-within t));
       jobs = record {
-        entries = entries-by p Jobs (h 8) (h 10) (h 13) (h 15) (h 29) (h 34);
-        zero-lives = x .0;
-        zero-number = eqb-true _ _ (x .1);
-        zero-base = eqb-true _ _ (unless (eqb 0 0) _ (h 3 0 (omega arith)) refl);
-        zero-unowned = eqb-true _ _ (unless (eqb 0 0) _ (h 33 0 (omega arith)) refl);
-        urgent = λ k l. leb-true _ _ (h 4 k l);
-        gained = λ k l. leb-true _ _ (h 5 k l);
-        frames = λ k l. ⊎-elim (λ e. inl (leb-true _ _ e)) (λ e. inr (eqb-true _ _ e)) (either _ _ (h 6 k l));
-        older = λ k u. ⊎-elim (λ e. inl (eqb-true _ _ e)) (λ e. inr (ltb-true _ _ e)) (either _ _ (unless _ _ (h 32 k (used-below p Jobs k u)) u));
-        waits = λ k l. waits-by p k (h 39 k l);
-        idle = λ k l. ⊎-elim (λ e. inl (eqb-true _ _ e)) inr (either _ _ (h 40 k l));
+        entries = entries Jobs;
+        zero-lives = zero .0;
+        zero-number = eqb-true _ _ (zero .1);
+        zero-base = eqb-true _ _ (unless (eqb 0 0) _ (h Rule.zero-base 0 (omega arith)) refl);
+        zero-unowned = eqb-true _ _ (unless (eqb 0 0) _ (h Rule.zero-unowned 0 (omega arith)) refl);
+        urgent = λ k l. leb-true _ _ (h Rule.priority-within k l);
+        gained = λ k l. leb-true _ _ (h Rule.accumulated-within k l);
+        frames = λ k l. ⊎-elim (λ e. inl (leb-true _ _ e)) (λ e. inr (eqb-true _ _ e)) (either _ _ (h Rule.timeout-within k l));
+        older = λ k u. ⊎-elim (λ e. inl (eqb-true _ _ e)) (λ e. inr (ltb-true _ _ e)) (either _ _ (unless _ _ (h Rule.owner-older k (used-below p Jobs k u)) u));
+        waits = λ k l. waits-by p k (h Rule.waits-well k l);
+        idle = λ k l. ⊎-elim (λ e. inl (eqb-true _ _ e)) inr (either _ _ (h Rule.idle-zero k l));
       };
       channels = record {
-        entries = entries-by p Channels (h 9) (h 11) (h 14) (h 16) (h 30) (h 35);
-        one = λ k u. eqb-true _ _ (unless _ _ (h 7 k (used-below p Channels k u)) u);
+        entries = entries Channels;
+        one = λ k u. eqb-true _ _ (unless _ _ (h Rule.ends-in-one k (used-below p Channels k u)) u);
       };
-      tiled = λ a. tiled-by p a (h 17 a) (h 18 a) (h 19 a) (h 20 a) (h 21 a) (h 22 a) (h 23 a) (h 24 a) (h 31 a);
-      matched = elim [ Jobs ↦ matched p Jobs (h 25 Transient) (h 26) | Channels ↦ matched p Channels (h 27 Heap) (h 28) ];
-      current = ⊎-elim (λ e. inl (eqb-true _ _ e)) (λ e. let b = both _ _ e in inr (b .0, b .1)) (either _ _ (h 38));
+      tiled = λ a. tiled-by p a (h Rule.length-whole a) (h Rule.kind-known a) (h Rule.start-zero a) (h Rule.free-blank a) (h Rule.queue-room a) (h Rule.tiles a) (h Rule.untouched a) (h Rule.kind-fits a) (h Rule.holder-live a);
+      matched = λ t. matched p t (h (Rule.claimed t) (area-of t)) (h (Rule.housed t));
+      current = ⊎-elim (λ e. inl (eqb-true _ _ e)) (λ e. let b = both _ _ e in inr (b .0, b .1)) (either _ _ (h Rule.current-ready));
     }
 
 -- from a fact to its test, rule by rule
@@ -339,135 +347,69 @@ module _ (p : List ℕ) where
       (λ (e : a ≡ area-of t). matched-claimed p t M i (subst (λ (b : Area). In i (blocks p b)) e m))
       (elsewhere t a i (T .fits i m))
 
--- a picture with all these facts is sound
-pub sound-again : (p : List ℕ) → Sound p → sound p ≡ true
-unfolding size-right zero-right heap-right last-within current-ready
-sound-again p S =
-    let z = S .sizes in
-    let J = S .jobs in
-    let C = S .channels in
-    let T = S .tiled in
-    let e = J .entries in
-    let f = C .entries in
-    sound-by p (
-      rw (eq-eqb _ _ (z .long), le-leb _ _ (z .least), le-leb _ _ (z .most), eq-eqb _ _ (z .fours)),
-      (
-        eq-eqb _ _ (z .nought),
-        (
-          rw (eq-eqb _ _ (z .heap-fours), le-leb _ _ (z .heap-least), le-leb (heap-base + word p heap-word + 4) (word p size-word) (rw (z .long) (z .heap-most))),
-          (
-            is-zero-base p J,
-            (
-              is-urgent p J,
-              (
-                is-gained p J,
-                (
-                  is-frames p J,
-                  (
-                    is-one p C,
-                    (
-                      is-blank p Jobs e,
-                      (
-                        is-blank p Channels f,
-                        (
-                          is-positioned p Jobs e,
-                          (
-                            is-positioned p Channels f,
-                            (
-                              is-zero-exists p J,
-                              (
-                                is-tagged p Jobs e,
-                                (
-                                  is-tagged p Channels f,
-                                  (
-                                    is-once p Jobs e,
-                                    (
-                                      is-once p Channels f,
-                                      (
-                                        (λ a. is-length p a (T a)),
-                                        (
-                                          (λ a i m. known-by p a i (T a .fits i m)),
-                                          (
-                                            (λ a. is-start p a (T a)),
-                                            (
-                                              (λ a. is-free p a (T a)),
-                                              (
-                                                (λ a. is-queue p a (T a)),
-                                                (
-                                                  (λ a. is-tile p a (T a)),
-                                                  (
-                                                    (λ a. is-lone p a (T a)),
-                                                    (
-                                                      (λ a i m. fits-is p a i (T a .fits i m)),
-                                                      (
-                                                        (λ a. claimed-by p Jobs a (S .matched Jobs) (T a)),
-                                                        (
-                                                          matched-housed p Jobs (S .matched Jobs),
-                                                          (
-                                                            (λ a. claimed-by p Channels a (S .matched Channels) (T a)),
-                                                            (
-                                                              matched-housed p Channels (S .matched Channels),
-                                                              (
-                                                                is-owned p Jobs e,
-                                                                (
-                                                                  is-owned p Channels f,
-                                                                  (
-                                                                    (λ a. is-held p a (T a)),
-                                                                    (
-                                                                      is-older p J,
-                                                                      (
-                                                                        is-zero-unowned p J,
-                                                                        (
-                                                                          is-given p Jobs e,
-                                                                          (
-                                                                            is-given p Channels f,
-                                                                            (
-                                                                              le-leb _ _ (z .last Jobs),
-                                                                              (
-                                                                                le-leb _ _ (z .last Channels),
-                                                                                (
-                                                                                  current-is (S .current),
-                                                                                  (is-waits p J, (is-idle p J, tt)),
-                                                                                ),
-                                                                              ),
-                                                                            ),
-                                                                          ),
-                                                                        ),
-                                                                      ),
-                                                                    ),
-                                                                  ),
-                                                                ),
-                                                              ),
-                                                            ),
-                                                          ),
-                                                        ),
-                                                      ),
-                                                    ),
-                                                  ),
-                                                ),
-                                              ),
-                                            ),
-                                          ),
-                                        ),
-                                      ),
-                                    ),
-                                  ),
-                                ),
-                              ),
-                            ),
-                          ),
-                        ),
-                      ),
-                    ),
-                  ),
-                ),
-              ),
-            ),
-          ),
-        ),
-      ),
-    )
-  where
-    current-is : Current p → eqb (word p current-word) nobody || (live p Jobs (word p current-word) && ready p (position (word p current-word))) ≡ true
-    current-is (inl e) = or-left (eqb (word p current-word) nobody) _ (eq-eqb _ _ e)
-    current-is (inr e) = or-right (eqb (word p current-word) nobody) (live p Jobs (word p current-word) && ready p (position (word p current-word))) (rw (e .0, e .1))
+-- the facts give every rule by its name
+module _ (p : List ℕ) (S : Sound p) where
+  entries-in : (t : Table) → Entries p t
+  entries-in Jobs = S .jobs .entries
+  entries-in Channels = S .channels .entries
+
+  is-size : size-right p ≡ true
+  unfolding size-right
+  is-size = let z = S .sizes in rw (eq-eqb _ _ (z .long), le-leb _ _ (z .least), le-leb _ _ (z .most), eq-eqb _ _ (z .fours))
+
+  is-nought : zero-right p ≡ true
+  unfolding zero-right
+  is-nought = eq-eqb _ _ (S .sizes .nought)
+
+  is-heap : heap-right p ≡ true
+  unfolding heap-right
+  is-heap = let z = S .sizes in rw (eq-eqb _ _ (z .heap-fours), le-leb _ _ (z .heap-least), le-leb (heap-base + word p heap-word + 4) (word p size-word) (rw (z .long) (z .heap-most)))
+
+  is-last : (t : Table) → last-within t p ≡ true
+  unfolding last-within
+  is-last t = le-leb _ _ (S .sizes .last t)
+
+  is-current : current-ready p ≡ true
+  unfolding current-ready
+  is-current = ⊎-elim
+      (λ e. or-left (eqb (word p current-word) nobody) _ (eq-eqb _ _ e))
+      (λ e. or-right (eqb (word p current-word) nobody) (live p Jobs (word p current-word) && ready p (position (word p current-word))) (rw (e .0, e .1)))
+      (S .current)
+
+  by-name : (r : Rule) → Holds p r
+  by-name Rule.size-right = is-size
+  by-name Rule.zero-right = is-nought
+  by-name Rule.heap-right = is-heap
+  by-name Rule.zero-base = is-zero-base p (S .jobs)
+  by-name Rule.priority-within = is-urgent p (S .jobs)
+  by-name Rule.accumulated-within = is-gained p (S .jobs)
+  by-name Rule.timeout-within = is-frames p (S .jobs)
+  by-name Rule.ends-in-one = is-one p (S .channels)
+  by-name (Rule.blank t) = is-blank p t (entries-in t)
+  by-name (Rule.positioned t) = is-positioned p t (entries-in t)
+  by-name Rule.zero-exists = is-zero-exists p (S .jobs)
+  by-name (Rule.tag-within t) = is-tagged p t (entries-in t)
+  by-name (Rule.tag-once t) = is-once p t (entries-in t)
+  by-name Rule.length-whole = λ a. is-length p a (S .tiled a)
+  by-name Rule.kind-known = λ a i m. known-by p a i (S .tiled a .fits i m)
+  by-name Rule.start-zero = λ a. is-start p a (S .tiled a)
+  by-name Rule.free-blank = λ a. is-free p a (S .tiled a)
+  by-name Rule.queue-room = λ a. is-queue p a (S .tiled a)
+  by-name Rule.tiles = λ a. is-tile p a (S .tiled a)
+  by-name Rule.untouched = λ a. is-lone p a (S .tiled a)
+  by-name Rule.kind-fits = λ a i m. fits-is p a i (S .tiled a .fits i m)
+  by-name (Rule.claimed t) = λ a. claimed-by p t a (S .matched t) (S .tiled a)
+  by-name (Rule.housed t) = matched-housed p t (S .matched t)
+  by-name (Rule.owner-live t) = is-owned p t (entries-in t)
+  by-name Rule.holder-live = λ a. is-held p a (S .tiled a)
+  by-name Rule.owner-older = is-older p (S .jobs)
+  by-name Rule.zero-unowned = is-zero-unowned p (S .jobs)
+  by-name (Rule.tag-given t) = is-given p t (entries-in t)
+  by-name (Rule.last-within t) = is-last t
+  by-name Rule.current-ready = is-current
+  by-name Rule.waits-well = is-waits p (S .jobs)
+  by-name Rule.idle-zero = is-idle p (S .jobs)
+
+  -- so such a picture is sound
+  pub sound-again : sound p ≡ true
+  sound-again = sound-by p by-name

@@ -7,49 +7,29 @@ use mathlib.Core.List.{List}
 use native.Mathlib.Omega.{arith}
 use lib.Dec.{leb}
 use borrow.Author.Tests.{eqb-true, eqb-false, ne-eqb, leb-true, not-true}
-use Rattle.words.specs.Each.{all}
+use Rattle.words.specs.Each.{In}
 use Rattle.words.proofs.Tests.{both, either, same-test}
 use Rattle.words.proofs.Each.{all-at}
-use Rattle.picture.specs.Layout.{positions, from, upto}
+use Rattle.picture.specs.Layout.{positions, upto}
 use Rattle.picture.specs.declared.Table.{Table}
 use Rattle.picture.specs.declared.Table.the-variants.{Jobs, Channels}
+use Rattle.picture.specs.declared.Area.{Area}
 use Rattle.picture.specs.declared.Area.the-variants.{Heap, Transient}
 use Rattle.blocks.specs.Header.{kind, kind-of, job-kind, queue-kind, free}
 use Rattle.blocks.specs.Walk.{blocks}
 use Rattle.matching.specs.Match.{area-of, claimed}
-use Rattle.entries.proofs.Rules.{Job, Channel, job-is, is-job, channel-is, is-channel}
+use Rattle.entries.specs.Entries.{record-fine}
+use Rattle.entries.proofs.Rules.{Entry, Job, Channel, job-is, is-job, channel-is, is-channel}
 use Rattle.walks.proofs.Rules.{Block}
-use Rattle.areas.specs.Rules.{length-whole, kind-known, start-zero, free-blank, queue-room, tiles, untouched, kind-fits}
-use Rattle.sound.specs.Whole.{size-right, zero-right, heap-right, last-within, current-ready}
-use Rattle.sound.specs.Sound.{rules, sound}
-use Rattle.sound.specs.Test.{whole-fine, tested}
-use Rattle.sound.proofs.Holds.{Holds, nth, sound-holds, sound-by}
+use Rattle.areas.specs.Rules.{kind-fits, holder-live}
+use Rattle.sound.specs.Rule.{Rule}
+use Rattle.sound.specs.Sound.{sound}
+use Rattle.sound.specs.Test.{half-fine, tested}
+use Rattle.sound.proofs.Holds.{Holds, sound-holds, sound-by}
+use Rattle.sound.proofs.Whole.{Whole, whole-is, is-whole}
 use Rattle.sound.proofs.Halves.{Half, half-is, is-half, half-by, half-claimed, half-housed, half-held, half-block}
 
--- the rules of the picture as a whole, taken apart
-record Whole (p : List ℕ) : Type 0 where
-  size : size-right p ≡ true
-  nought : zero-right p ≡ true
-  heap : heap-right p ≡ true
-  jobs : last-within Jobs p ≡ true
-  channels : last-within Channels p ≡ true
-  current : current-ready p ≡ true
-
 module _ (p : List ℕ) where
-  whole-is : whole-fine p ≡ true → Whole p
-  unfolding whole-fine
-  whole-is h =
-      let a = both _ _ h in
-      let b = both _ _ (a .1) in
-      let c = both _ _ (b .1) in
-      let d = both _ _ (c .1) in
-      let e = both _ _ (d .1) in
-      record { size = a .0; nought = b .0; heap = c .0; jobs = d .0; channels = e .0; current = e .1 }
-
-  is-whole : Whole p → whole-fine p ≡ true
-  unfolding whole-fine
-  is-whole w = rw (w .size, w .nought, w .heap, w .jobs, w .channels, w .current)
-
   -- a block of another kind is nobody's
   unclaimed : (t : Table) (i : ℕ) → (kind p i ≡ kind-of t → ⊥) → claimed p t i ≡ true
   unfolding claimed
@@ -66,146 +46,133 @@ module _ (p : List ℕ) where
       (λ (e : leb job-kind (kind p i) ≡ true). let z = leb-true job-kind (kind p i) e in omega arith)
       (either _ _ h)
 
+  -- the table whose blocks lie in an area
+  abbrev table-in : Area → Table
+  table-in Heap = Channels
+  table-in Transient = Jobs
+
+  -- what the test says, rule by rule
+  module _ (w : Whole p) (h : (t : Table) → Half p t) where
+    job : (k : ℕ) → k < positions Jobs → Job p k
+    job k l = job-is p k (h Jobs .records k l)
+
+    channel : (k : ℕ) → k < positions Channels → Channel p k
+    channel k l = channel-is p k (h Channels .records k l)
+
+    entry : (t : Table) (k : ℕ) → k < positions t → Entry p t k
+    entry Jobs k l = job k l .entry
+    entry Channels k l = channel k l .entry
+
+    block : (a : Area) (i : ℕ) → In i (blocks p a) → Block p (table-in a) (upto p a) i
+    block Heap = half-block p Channels (h Channels)
+    block Transient = half-block p Jobs (h Jobs)
+
+    fits : (a : Area) (i : ℕ) → In i (blocks p a) → kind-fits p a i ≡ true
+    fits Heap i m = block Heap i m .fits
+    fits Transient i m = block Transient i m .fits
+
+    claimed-in : (t : Table) (a : Area) (i : ℕ) → In i (blocks p a) → claimed p t i ≡ true
+    claimed-in Jobs Heap i m = unclaimed Jobs i (no-job i (fits Heap i m))
+    claimed-in Jobs Transient i m = all-at (claimed p Jobs) (blocks p Transient) (half-claimed p Jobs (h Jobs)) i m
+    claimed-in Channels Heap i m = all-at (claimed p Channels) (blocks p Heap) (half-claimed p Channels (h Channels)) i m
+    claimed-in Channels Transient i m = unclaimed Channels i (no-queue i (fits Transient i m))
+
+    held : (a : Area) (i : ℕ) → In i (blocks p a) → holder-live p i ≡ true
+    held Heap = half-held p Channels (h Channels) (λ k l. entry Channels k l .owner)
+    held Transient = half-held p Jobs (h Jobs) (λ k l. entry Jobs k l .owner)
+
+    by-name : (r : Rule) → Holds p r
+    by-name Rule.size-right = w .size
+    by-name Rule.zero-right = w .nought
+    by-name Rule.heap-right = w .heap
+    by-name Rule.zero-base = λ k l. job k l .base
+    by-name Rule.priority-within = λ k l. job k l .priority
+    by-name Rule.accumulated-within = λ k l. job k l .accumulated
+    by-name Rule.timeout-within = λ k l. job k l .timeout
+    by-name Rule.ends-in-one = λ k l. channel k l .ending
+    by-name (Rule.blank t) = λ k l. entry t k l .unused
+    by-name (Rule.positioned t) = λ k l. entry t k l .place
+    by-name Rule.zero-exists = λ k l. job k l .nought
+    by-name (Rule.tag-within t) = λ k l. entry t k l .tagged
+    by-name (Rule.tag-once t) = λ k l. entry t k l .once
+    by-name Rule.length-whole = λ a i m. block a i m .size
+    by-name Rule.kind-known = λ a i m. block a i m .known
+    by-name Rule.start-zero = λ a i m. block a i m .start
+    by-name Rule.free-blank = λ a i m. block a i m .free
+    by-name Rule.queue-room = λ a i m. block a i m .queue
+    by-name Rule.tiles = λ a i m. block a i m .tile
+    by-name Rule.untouched = λ a i m. block a i m .lone
+    by-name Rule.kind-fits = fits
+    by-name (Rule.claimed t) = claimed-in t
+    by-name (Rule.housed t) = half-housed p t (h t)
+    by-name (Rule.owner-live t) = λ k l. entry t k l .owner
+    by-name Rule.holder-live = held
+    by-name Rule.owner-older = λ k l. job k l .older
+    by-name Rule.zero-unowned = λ k l. job k l .unowned
+    by-name (Rule.tag-given t) = λ k l. entry t k l .given
+    by-name (Rule.last-within t) = w .last t
+    by-name Rule.current-ready = w .current
+    by-name Rule.waits-well = λ k l. job k l .waits
+    by-name Rule.idle-zero = λ k l. job k l .idle
+
   tested-sound : tested p ≡ true → sound p ≡ true
   unfolding tested
   tested-sound h =
       let a = both _ _ h in
       let b = both _ _ (a .1) in
-      let t = half-is p Jobs (b .0) in
-      let s = half-is p Channels (b .1) in
-      by (whole-is (a .0)) (λ k l. job-is p k (t .records k l)) (λ k l. channel-is p k (s .records k l)) s t
-    where
-      by : Whole p → ((k : ℕ) → k < positions Jobs → Job p k) → ((k : ℕ) → k < positions Channels → Channel p k) → Half p Channels → Half p Jobs → sound p ≡ true
-      by w j c h t = sound-by p (
-        w .size,
-        (
-          w .nought,
-          (
-            w .heap,
-            (
-              λ k l. j k l .base,
-              (
-                λ k l. j k l .priority,
-                (
-                  λ k l. j k l .accumulated,
-                  (
-                    λ k l. j k l .timeout,
-                    (
-                      λ k l. c k l .ending,
-                      (
-                        λ k l. j k l .entry .unused,
-                        (
-                          λ k l. c k l .entry .unused,
-                          (
-                            λ k l. j k l .entry .place,
-                            (
-                              λ k l. c k l .entry .place,
-                              (
-                                λ k l. j k l .nought,
-                                (
-                                  λ k l. j k l .entry .tagged,
-                                  (
-                                    λ k l. c k l .entry .tagged,
-                                    (
-                                      λ k l. j k l .entry .once,
-                                      (
-                                        λ k l. c k l .entry .once,
-                                        (
-                                          elim [ Heap ↦ λ i m. half-block p Channels h i m .size | Transient ↦ λ i m. half-block p Jobs t i m .size ],
-                                          (
-                                            elim [ Heap ↦ λ i m. half-block p Channels h i m .known | Transient ↦ λ i m. half-block p Jobs t i m .known ],
-                                            (
-                                              elim [ Heap ↦ λ i m. half-block p Channels h i m .start | Transient ↦ λ i m. half-block p Jobs t i m .start ],
-                                              (
-                                                elim [ Heap ↦ λ i m. half-block p Channels h i m .free | Transient ↦ λ i m. half-block p Jobs t i m .free ],
-                                                (
-                                                  elim [ Heap ↦ λ i m. half-block p Channels h i m .queue | Transient ↦ λ i m. half-block p Jobs t i m .queue ],
-                                                  (
-                                                    elim [ Heap ↦ λ i m. half-block p Channels h i m .tile | Transient ↦ λ i m. half-block p Jobs t i m .tile ],
-                                                    (
-                                                      elim [ Heap ↦ λ i m. half-block p Channels h i m .lone | Transient ↦ λ i m. half-block p Jobs t i m .lone ],
-                                                      (
-                                                        elim [ Heap ↦ λ i m. half-block p Channels h i m .fits | Transient ↦ λ i m. half-block p Jobs t i m .fits ],
-                                                        (
-                                                          elim [ Heap ↦ λ i m. unclaimed Jobs i (no-job i (half-block p Channels h i m .fits)) | Transient ↦ all-at (claimed p Jobs) (blocks p Transient) (half-claimed p Jobs t) ],
-                                                          (
-                                                            half-housed p Jobs t,
-                                                            (
-                                                              elim [ Heap ↦ all-at (claimed p Channels) (blocks p Heap) (half-claimed p Channels h) | Transient ↦ λ i m. unclaimed Channels i (no-queue i (half-block p Jobs t i m .fits)) ],
-                                                              (
-                                                                half-housed p Channels h,
-                                                                (
-                                                                  λ k l. j k l .entry .owner,
-                                                                  (
-                                                                    λ k l. c k l .entry .owner,
-                                                                    (
-                                                                      elim [ Heap ↦ half-held p Channels h (λ k l. c k l .entry .owner) | Transient ↦ half-held p Jobs t (λ k l. j k l .entry .owner) ],
-                                                                      (
-                                                                        λ k l. j k l .older,
-                                                                        (
-                                                                          λ k l. j k l .unowned,
-                                                                          (
-                                                                            λ k l. j k l .entry .given,
-                                                                            (
-                                                                              λ k l. c k l .entry .given,
-                                                                              (
-                                                                                w .jobs,
-                                                                                (
-                                                                                  w .channels,
-                                                                                  (
-                                                                                    w .current,
-                                                                                    (λ k l. j k l .waits, (λ k l. j k l .idle, tt)),
-                                                                                  ),
-                                                                                ),
-                                                                              ),
-                                                                            ),
-                                                                          ),
-                                                                        ),
-                                                                      ),
-                                                                    ),
-                                                                  ),
-                                                                ),
-                                                              ),
-                                                            ),
-                                                          ),
-                                                        ),
-                                                      ),
-                                                    ),
-                                                  ),
-                                                ),
-                                              ),
-                                            ),
-                                          ),
-                                        ),
-                                      ),
-                                    ),
-                                  ),
-                                ),
-                              ),
-                            ),
-                          ),
-                        ),
-                      ),
-                    ),
-                  ),
-                ),
-              ),
-            ),
-          ),
-        ),
-      )
+      sound-by p (by-name (whole-is p (a .0)) (elim [ Jobs ↦ half-is p Jobs (b .0) | Channels ↦ half-is p Channels (b .1) ]))
+
+  -- what soundness says, in the test's parts
+  module _ (h : (r : Rule) → Holds p r) where
+    entry-by : (t : Table) (k : ℕ) → k < positions t → Entry p t k
+    entry-by t k l = record {
+      unused = h (Rule.blank t) k l;
+      place = h (Rule.positioned t) k l;
+      tagged = h (Rule.tag-within t) k l;
+      once = h (Rule.tag-once t) k l;
+      owner = h (Rule.owner-live t) k l;
+      given = h (Rule.tag-given t) k l;
+    }
+
+    job-by : (k : ℕ) → k < positions Jobs → Job p k
+    job-by k l = record {
+      entry = entry-by Jobs k l;
+      nought = h Rule.zero-exists k l;
+      base = h Rule.zero-base k l;
+      unowned = h Rule.zero-unowned k l;
+      priority = h Rule.priority-within k l;
+      accumulated = h Rule.accumulated-within k l;
+      timeout = h Rule.timeout-within k l;
+      older = h Rule.owner-older k l;
+      waits = h Rule.waits-well k l;
+      idle = h Rule.idle-zero k l;
+    }
+
+    record-by : (t : Table) (k : ℕ) → k < positions t → record-fine p t k ≡ true
+    record-by Jobs k l = is-job p k (job-by k l)
+    record-by Channels k l = is-channel p k (record { entry = entry-by Channels k l; ending = h Rule.ends-in-one k l })
+
+    block-by : (t : Table) (i : ℕ) → In i (blocks p (area-of t)) → Block p t (upto p (area-of t)) i
+    block-by t i m = record {
+      size = h Rule.length-whole (area-of t) i m;
+      tile = h Rule.tiles (area-of t) i m;
+      known = h Rule.kind-known (area-of t) i m;
+      fits = h Rule.kind-fits (area-of t) i m;
+      start = h Rule.start-zero (area-of t) i m;
+      free = h Rule.free-blank (area-of t) i m;
+      lone = h Rule.untouched (area-of t) i m;
+      queue = h Rule.queue-room (area-of t) i m;
+    }
+
+    half : (t : Table) → half-fine p t ≡ true
+    half t = is-half p t (half-by p t (record-by t) (block-by t) (h (Rule.claimed t) (area-of t)) (h (Rule.housed t)) (h Rule.holder-live (area-of t)))
+
+    whole-by : Whole p
+    whole-by = record { size = h Rule.size-right; nought = h Rule.zero-right; heap = h Rule.heap-right; last = λ t. h (Rule.last-within t); current = h Rule.current-ready }
 
   sound-tested : sound p ≡ true → tested p ≡ true
   unfolding tested
-  sound-tested s =
-      let h : (n : ℕ) → Holds p (nth n rules) = sound-holds p s in
-      let job : (k : ℕ) → k < positions Jobs → Job p k = λ k l. record { entry = record { unused = h 8 k l; place = h 10 k l; tagged = h 13 k l; once = h 15 k l; owner = h 29 k l; given = h 34 k l }; nought = h 12 k l; base = h 3 k l; unowned = h 33 k l; priority = h 4 k l; accumulated = h 5 k l; timeout = h 6 k l; older = h 32 k l; waits = h 39 k l; idle = h 40 k l } in
-      let channel : (k : ℕ) → k < positions Channels → Channel p k = λ k l. record { entry = record { unused = h 9 k l; place = h 11 k l; tagged = h 14 k l; once = h 16 k l; owner = h 30 k l; given = h 35 k l }; ending = h 7 k l } in
-      rw (is-whole (record { size = h 0; nought = h 1; heap = h 2; jobs = h 36; channels = h 37; current = h 38 }), is-half p Jobs (half-by p Jobs (λ k l. is-job p k (job k l)) (λ i m. block Jobs i (h 17 Transient i m) (h 22 Transient i m) (h 18 Transient i m) (h 24 Transient i m) (h 19 Transient i m) (h 20 Transient i m) (h 23 Transient i m) (h 21 Transient i m)) (h 25 Transient) (h 26) (h 31 Transient)), is-half p Channels (half-by p Channels (λ k l. is-channel p k (channel k l)) (λ i m. block Channels i (h 17 Heap i m) (h 22 Heap i m) (h 18 Heap i m) (h 24 Heap i m) (h 19 Heap i m) (h 20 Heap i m) (h 23 Heap i m) (h 21 Heap i m)) (h 27 Heap) (h 28) (h 31 Heap)))
-    where
-      block : (t : Table) (i : ℕ) → length-whole p i ≡ true → tiles p (upto p (area-of t)) i ≡ true → kind-known p i ≡ true → kind-fits p (area-of t) i ≡ true → start-zero p i ≡ true
-          → free-blank p i ≡ true → untouched p (upto p (area-of t)) i ≡ true → queue-room p i ≡ true → Block p t (upto p (area-of t)) i
-      block t i a b c d e f g j = record { size = a; tile = b; known = c; fits = d; start = e; free = f; lone = g; queue = j }
+  sound-tested s = let h = sound-holds p s in rw (is-whole p (whole-by h), half h Jobs, half h Channels)
 
   -- the test is soundness
   pub tested-is : tested p ≡ sound p

@@ -1,61 +1,108 @@
 -- What it means that a rule holds, and that soundness is: all of them hold.
-use Prim.Native.Nat.{ℕ, zero, suc, _<_}
+use Prim.Native.Nat.{ℕ, _<_}
 use mathlib.Core.Path.{_≡_, refl}
-use mathlib.Core.Bool.{Bool, true, false, _&&_}
+use mathlib.Core.Bool.{true}
 use mathlib.Core.List.{List, [], _∷_}
-use Rattle.words.specs.Each.{every, all, In}
+use Rattle.words.specs.Each.{all, In}
 use Rattle.words.proofs.Tests.{both}
 use Rattle.words.proofs.Each.{every-at, every-by, all-at, all-by}
 use Rattle.picture.specs.Layout.{positions}
+use Rattle.picture.specs.declared.Table.the-variants.{Jobs, Channels}
 use Rattle.picture.specs.declared.Area.{Area}
 use Rattle.picture.specs.declared.Area.the-variants.{Heap, Transient}
 use Rattle.blocks.specs.Walk.{blocks}
-use Rattle.sound.specs.Sound.{Rule, whole, each-record, each-block, holds, rules, all-hold, sound}
+use Rattle.sound.specs.Rule.{Rule, rules}
+use Rattle.sound.specs.Sound.{Test, whole, each-record, each-block, passes, test, all-hold, sound}
 
--- a rule holds: of the picture, of each record, of each block
-abbrev pub Holds : List ℕ → Rule → Type 0
-Holds p (whole f) = f p ≡ true
-Holds p (each-record t f) = (k : ℕ) → k < positions t → f p k ≡ true
-Holds p (each-block f) = (a : Area) (i : ℕ) → In i (blocks p a) → f p a i ≡ true
+-- a test passes: of the picture, of each record, of each block
+abbrev pub Passes : List ℕ → Test → Type 0
+Passes p (whole f) = f p ≡ true
+Passes p (each-record t f) = (k : ℕ) → k < positions t → f p k ≡ true
+Passes p (each-block f) = (a : Area) (i : ℕ) → In i (blocks p a) → f p a i ≡ true
 
-pub holds-is : (p : List ℕ) (r : Rule) → holds p r ≡ true → Holds p r
-holds-is p (whole f) h = h
-holds-is p (each-record t f) h = every-at (f p) (positions t) h
-holds-is p (each-block f) h = by (both _ _ h)
+passes-is : (p : List ℕ) (t : Test) → passes p t ≡ true → Passes p t
+passes-is p (whole f) h = h
+passes-is p (each-record t f) h = every-at (f p) (positions t) h
+passes-is p (each-block f) h = by (both _ _ h)
   where
     by : (all (f p Heap) (blocks p Heap) ≡ true) × (all (f p Transient) (blocks p Transient) ≡ true) → (a : Area) (i : ℕ) → In i (blocks p a) → f p a i ≡ true
     by b Heap = all-at (f p Heap) (blocks p Heap) (b .0)
     by b Transient = all-at (f p Transient) (blocks p Transient) (b .1)
 
-pub is-holds : (p : List ℕ) (r : Rule) → Holds p r → holds p r ≡ true
-is-holds p (whole f) h = h
-is-holds p (each-record t f) h = every-by (f p) (positions t) h
-is-holds p (each-block f) h = rw (all-by (f p Heap) (blocks p Heap) (h Heap), all-by (f p Transient) (blocks p Transient) (h Transient))
+is-passes : (p : List ℕ) (t : Test) → Passes p t → passes p t ≡ true
+is-passes p (whole f) h = h
+is-passes p (each-record t f) h = every-by (f p) (positions t) h
+is-passes p (each-block f) h = rw (all-by (f p Heap) (blocks p Heap) (h Heap), all-by (f p Transient) (blocks p Transient) (h Transient))
 
--- all rules of a list hold, as a tuple
-abbrev pub AllHold : List ℕ → List Rule → Type 0
-AllHold p [] = Unit {0}
-AllHold p (r ∷ l) = Holds p r × AllHold p l
+-- a rule holds
+abbrev pub Holds : List ℕ → Rule → Type 0
+Holds p r = Passes p (test r)
 
-all-hold-by : (p : List ℕ) (l : List Rule) → AllHold p l → all-hold p l ≡ true
-all-hold-by p [] h = refl
-all-hold-by p (r ∷ l) h = rw (is-holds p r (h .0), all-hold-by p l (h .1))
+-- a rule is one of a list
+data Listed (r : Rule) : List Rule → Type 0 where
+  here : {l : List Rule} → Listed r (r ∷ l)
+  there : {s : Rule} {l : List Rule} → Listed r l → Listed r (s ∷ l)
 
--- the rule with the number n, counted from 0; past the last a rule that always holds
-abbrev pub nth : ℕ → List Rule → Rule
-nth n [] = whole (λ (p : List ℕ). true)
-nth zero (r ∷ l) = r
-nth (suc n) (r ∷ l) = nth n l
+ruleset lists = (here, there)
 
-nth-holds : (p : List ℕ) (l : List Rule) (n : ℕ) → all-hold p l ≡ true → Holds p (nth n l)
-nth-holds p [] n h = refl
-nth-holds p (r ∷ l) zero h = holds-is p r (both (holds p r) (all-hold p l) h .0)
-nth-holds p (r ∷ l) (suc n) h = nth-holds p l n (both (holds p r) (all-hold p l) h .1)
+-- every rule that has a name is in the list
+listed : (r : Rule) → Listed r rules
+listed Rule.size-right = search lists depth 64
+listed Rule.zero-right = search lists depth 64
+listed Rule.heap-right = search lists depth 64
+listed Rule.zero-base = search lists depth 64
+listed Rule.priority-within = search lists depth 64
+listed Rule.accumulated-within = search lists depth 64
+listed Rule.timeout-within = search lists depth 64
+listed Rule.ends-in-one = search lists depth 64
+listed (Rule.blank Jobs) = search lists depth 64
+listed (Rule.blank Channels) = search lists depth 64
+listed (Rule.positioned Jobs) = search lists depth 64
+listed (Rule.positioned Channels) = search lists depth 64
+listed Rule.zero-exists = search lists depth 64
+listed (Rule.tag-within Jobs) = search lists depth 64
+listed (Rule.tag-within Channels) = search lists depth 64
+listed (Rule.tag-once Jobs) = search lists depth 64
+listed (Rule.tag-once Channels) = search lists depth 64
+listed Rule.length-whole = search lists depth 64
+listed Rule.kind-known = search lists depth 64
+listed Rule.start-zero = search lists depth 64
+listed Rule.free-blank = search lists depth 64
+listed Rule.queue-room = search lists depth 64
+listed Rule.tiles = search lists depth 64
+listed Rule.untouched = search lists depth 64
+listed Rule.kind-fits = search lists depth 64
+listed (Rule.claimed Jobs) = search lists depth 64
+listed (Rule.claimed Channels) = search lists depth 64
+listed (Rule.housed Jobs) = search lists depth 64
+listed (Rule.housed Channels) = search lists depth 64
+listed (Rule.owner-live Jobs) = search lists depth 64
+listed (Rule.owner-live Channels) = search lists depth 64
+listed Rule.holder-live = search lists depth 64
+listed Rule.owner-older = search lists depth 64
+listed Rule.zero-unowned = search lists depth 64
+listed (Rule.tag-given Jobs) = search lists depth 64
+listed (Rule.tag-given Channels) = search lists depth 64
+listed (Rule.last-within Jobs) = search lists depth 64
+listed (Rule.last-within Channels) = search lists depth 64
+listed Rule.current-ready = search lists depth 64
+listed Rule.waits-well = search lists depth 64
+listed Rule.idle-zero = search lists depth 64
 
-pub sound-holds : (p : List ℕ) → sound p ≡ true → (n : ℕ) → Holds p (nth n rules)
+listed-holds : (p : List ℕ) (r : Rule) (l : List Rule) → Listed r l → all-hold p l ≡ true → Holds p r
+listed-holds p r (s ∷ l) here h = passes-is p (test r) (both (passes p (test r)) (all-hold p l) h .0)
+listed-holds p r (s ∷ l) (there i) h = listed-holds p r l i (both (passes p (test s)) (all-hold p l) h .1)
+
+-- in a sound picture every rule holds
+pub sound-holds : (p : List ℕ) → sound p ≡ true → (r : Rule) → Holds p r
 unfolding sound
-sound-holds p s n = nth-holds p rules n s
+sound-holds p s r = listed-holds p r rules (listed r) s
 
-pub sound-by : (p : List ℕ) → AllHold p rules → sound p ≡ true
+all-hold-by : (p : List ℕ) → ((r : Rule) → Holds p r) → (l : List Rule) → all-hold p l ≡ true
+all-hold-by p h [] = refl
+all-hold-by p h (r ∷ l) = rw (is-passes p (test r) (h r), all-hold-by p h l)
+
+-- and where every rule holds, it is sound
+pub sound-by : (p : List ℕ) → ((r : Rule) → Holds p r) → sound p ≡ true
 unfolding sound
-sound-by p h = all-hold-by p rules h
+sound-by p h = all-hold-by p h rules

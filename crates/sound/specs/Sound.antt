@@ -1,4 +1,4 @@
--- Document 01: "A picture is sound if ..": every rule holds. The rules stand in the paper's order.
+-- Document 01: "A picture is sound if ..": every rule holds.
 use Prim.Native.Nat.{ℕ}
 use mathlib.Core.Bool.{Bool, true, _&&_}
 use mathlib.Core.List.{List, [], _∷_}
@@ -13,68 +13,58 @@ use Rattle.matching.specs.Match.{claimed, housed}
 use Rattle.records.specs.Rules.{zero-base, priority-within, accumulated-within, timeout-within, ends-in-one, blank, positioned, zero-exists, tag-within, tag-once, owner-live, owner-older, zero-unowned, tag-given, waits-well, idle-zero}
 use Rattle.areas.specs.Rules.{length-whole, kind-known, start-zero, free-blank, queue-room, tiles, untouched, kind-fits, holder-live}
 use Rattle.sound.specs.Whole.{size-right, zero-right, heap-right, last-within, current-ready}
+use Rattle.sound.specs.Rule.{Rule, rules}
 
--- a rule is one of the picture as a whole, of each record of a table, or of each block of both areas
-pub data Rule : Type 0 where
-  whole : (List ℕ → Bool) → Rule
-  each-record : Table → (List ℕ → ℕ → Bool) → Rule
-  each-block : (List ℕ → Area → ℕ → Bool) → Rule
+-- a test is one of the picture as a whole, of each record of a table, or of each block of both areas
+pub data Test : Type 0 where
+  whole : (List ℕ → Bool) → Test
+  each-record : Table → (List ℕ → ℕ → Bool) → Test
+  each-block : (List ℕ → Area → ℕ → Bool) → Test
 
--- the rule holds
-abbrev pub holds : List ℕ → Rule → Bool
-holds p (whole f) = f p
-holds p (each-record t f) = every (f p) (positions t)
-holds p (each-block f) = all (f p Heap) (blocks p Heap) && all (f p Transient) (blocks p Transient)
+abbrev pub passes : List ℕ → Test → Bool
+passes p (whole f) = f p
+passes p (each-record t f) = every (f p) (positions t)
+passes p (each-block f) = all (f p Heap) (blocks p Heap) && all (f p Transient) (blocks p Transient)
 
--- the rules, in document 01's order
-abbrev pub rules : List Rule
-rules =
-    whole (λ (p : List ℕ). size-right p) ∷
-    whole (λ (p : List ℕ). zero-right p) ∷
-    whole (λ (p : List ℕ). heap-right p) ∷
-    each-record Jobs (λ (p : List ℕ) (k : ℕ). zero-base p k) ∷
-    each-record Jobs (λ (p : List ℕ) (k : ℕ). priority-within p k) ∷
-    each-record Jobs (λ (p : List ℕ) (k : ℕ). accumulated-within p k) ∷
-    each-record Jobs (λ (p : List ℕ) (k : ℕ). timeout-within p k) ∷
-    each-record Channels (λ (p : List ℕ) (k : ℕ). ends-in-one p k) ∷
-    each-record Jobs (λ (p : List ℕ) (k : ℕ). blank p Jobs k) ∷
-    each-record Channels (λ (p : List ℕ) (k : ℕ). blank p Channels k) ∷
-    each-record Jobs (λ (p : List ℕ) (k : ℕ). positioned p Jobs k) ∷
-    each-record Channels (λ (p : List ℕ) (k : ℕ). positioned p Channels k) ∷
-    each-record Jobs (λ (p : List ℕ) (k : ℕ). zero-exists p k) ∷
-    each-record Jobs (λ (p : List ℕ) (k : ℕ). tag-within p Jobs k) ∷
-    each-record Channels (λ (p : List ℕ) (k : ℕ). tag-within p Channels k) ∷
-    each-record Jobs (λ (p : List ℕ) (k : ℕ). tag-once p Jobs k) ∷
-    each-record Channels (λ (p : List ℕ) (k : ℕ). tag-once p Channels k) ∷
-    each-block (λ (p : List ℕ) (a : Area) (i : ℕ). length-whole p i) ∷
-    each-block (λ (p : List ℕ) (a : Area) (i : ℕ). kind-known p i) ∷
-    each-block (λ (p : List ℕ) (a : Area) (i : ℕ). start-zero p i) ∷
-    each-block (λ (p : List ℕ) (a : Area) (i : ℕ). free-blank p i) ∷
-    each-block (λ (p : List ℕ) (a : Area) (i : ℕ). queue-room p i) ∷
-    each-block (λ (p : List ℕ) (a : Area) (i : ℕ). tiles p (upto p a) i) ∷
-    each-block (λ (p : List ℕ) (a : Area) (i : ℕ). untouched p (upto p a) i) ∷
-    each-block (λ (p : List ℕ) (a : Area) (i : ℕ). kind-fits p a i) ∷
-    each-block (λ (p : List ℕ) (a : Area) (i : ℕ). claimed p Jobs i) ∷
-    each-record Jobs (λ (p : List ℕ) (k : ℕ). housed p Jobs k) ∷
-    each-block (λ (p : List ℕ) (a : Area) (i : ℕ). claimed p Channels i) ∷
-    each-record Channels (λ (p : List ℕ) (k : ℕ). housed p Channels k) ∷
-    each-record Jobs (λ (p : List ℕ) (k : ℕ). owner-live p Jobs k) ∷
-    each-record Channels (λ (p : List ℕ) (k : ℕ). owner-live p Channels k) ∷
-    each-block (λ (p : List ℕ) (a : Area) (i : ℕ). holder-live p i) ∷
-    each-record Jobs (λ (p : List ℕ) (k : ℕ). owner-older p k) ∷
-    each-record Jobs (λ (p : List ℕ) (k : ℕ). zero-unowned p k) ∷
-    each-record Jobs (λ (p : List ℕ) (k : ℕ). tag-given p Jobs k) ∷
-    each-record Channels (λ (p : List ℕ) (k : ℕ). tag-given p Channels k) ∷
-    whole (λ (p : List ℕ). last-within Jobs p) ∷
-    whole (λ (p : List ℕ). last-within Channels p) ∷
-    whole (λ (p : List ℕ). current-ready p) ∷
-    each-record Jobs (λ (p : List ℕ) (k : ℕ). waits-well p k) ∷
-    each-record Jobs (λ (p : List ℕ) (k : ℕ). idle-zero p k) ∷ []
+-- the test of each rule
+abbrev pub test : Rule → Test
+test Rule.size-right = whole size-right
+test Rule.zero-right = whole zero-right
+test Rule.heap-right = whole heap-right
+test Rule.zero-base = each-record Jobs zero-base
+test Rule.priority-within = each-record Jobs priority-within
+test Rule.accumulated-within = each-record Jobs accumulated-within
+test Rule.timeout-within = each-record Jobs timeout-within
+test Rule.ends-in-one = each-record Channels ends-in-one
+test (Rule.blank t) = each-record t (λ (p : List ℕ) (k : ℕ). blank p t k)
+test (Rule.positioned t) = each-record t (λ (p : List ℕ) (k : ℕ). positioned p t k)
+test Rule.zero-exists = each-record Jobs zero-exists
+test (Rule.tag-within t) = each-record t (λ (p : List ℕ) (k : ℕ). tag-within p t k)
+test (Rule.tag-once t) = each-record t (λ (p : List ℕ) (k : ℕ). tag-once p t k)
+test Rule.length-whole = each-block (λ (p : List ℕ) (a : Area) (i : ℕ). length-whole p i)
+test Rule.kind-known = each-block (λ (p : List ℕ) (a : Area) (i : ℕ). kind-known p i)
+test Rule.start-zero = each-block (λ (p : List ℕ) (a : Area) (i : ℕ). start-zero p i)
+test Rule.free-blank = each-block (λ (p : List ℕ) (a : Area) (i : ℕ). free-blank p i)
+test Rule.queue-room = each-block (λ (p : List ℕ) (a : Area) (i : ℕ). queue-room p i)
+test Rule.tiles = each-block (λ (p : List ℕ) (a : Area) (i : ℕ). tiles p (upto p a) i)
+test Rule.untouched = each-block (λ (p : List ℕ) (a : Area) (i : ℕ). untouched p (upto p a) i)
+test Rule.kind-fits = each-block kind-fits
+test (Rule.claimed t) = each-block (λ (p : List ℕ) (a : Area) (i : ℕ). claimed p t i)
+test (Rule.housed t) = each-record t (λ (p : List ℕ) (k : ℕ). housed p t k)
+test (Rule.owner-live t) = each-record t (λ (p : List ℕ) (k : ℕ). owner-live p t k)
+test Rule.holder-live = each-block (λ (p : List ℕ) (a : Area) (i : ℕ). holder-live p i)
+test Rule.owner-older = each-record Jobs owner-older
+test Rule.zero-unowned = each-record Jobs zero-unowned
+test (Rule.tag-given t) = each-record t (λ (p : List ℕ) (k : ℕ). tag-given p t k)
+test (Rule.last-within t) = whole (last-within t)
+test Rule.current-ready = whole current-ready
+test Rule.waits-well = each-record Jobs waits-well
+test Rule.idle-zero = each-record Jobs idle-zero
 
 -- all rules of a list hold
 abbrev pub all-hold : List ℕ → List Rule → Bool
 all-hold p [] = true
-all-hold p (r ∷ l) = holds p r && all-hold p l
+all-hold p (r ∷ l) = passes p (test r) && all-hold p l
 
 -- the picture is sound
 unfoldable pub sound : List ℕ → Bool

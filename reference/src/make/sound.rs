@@ -1,24 +1,25 @@
 //! Trials of soundness: sound pictures, each rule broken alone, longwords changed anywhere, and fresh pictures.
 
+use super::damage::{Damage, DAMAGES, NEVER_ALONE};
 use super::world::World;
 use super::Maker;
 use crate::picture::*;
 use crate::random::Random;
 use crate::sound::{broken, first_broken, Rule};
 
-/// How often each rule is broken alone.
+/// How often a picture has each damage alone.
 const TIMES_ALONE: usize = 21;
-/// How often a rule that can't be broken alone is the first broken.
+/// How often it has one that can't be alone.
 const TIMES_FIRST: usize = 5;
 
 pub fn listed(maker: &mut Maker) {
     for round in 0..TIMES_ALONE.max(TIMES_FIRST) {
-        for rule in Rule::ALL {
-            if !Rule::NEVER_ALONE.contains(&rule) {
-                let picture = broken_alone(&mut maker.random, rule);
+        for (damage, rules) in DAMAGES {
+            if !NEVER_ALONE.contains(&damage) {
+                let picture = damaged(&mut maker.random, damage, rules);
                 ask(maker, &picture);
             } else if round < TIMES_FIRST {
-                let picture = broken_first(&mut maker.random, rule);
+                let picture = damaged_first(&mut maker.random, damage, rules);
                 ask(maker, &picture);
             }
         }
@@ -47,9 +48,9 @@ pub fn one_more(maker: &mut Maker) {
         }
         4 => random_fresh(maker),
         5 => {
-            let rule = maker.random.one_of(&Rule::ALL);
-            if !Rule::NEVER_ALONE.contains(&rule) {
-                let picture = broken_alone(&mut maker.random, rule);
+            let (damage, rules) = maker.random.one_of(&DAMAGES);
+            if !NEVER_ALONE.contains(&damage) {
+                let picture = damaged(&mut maker.random, damage, rules);
                 ask(maker, &picture);
             }
         }
@@ -322,30 +323,31 @@ pub fn change_somewhere(random: &mut Random, world: &mut World) {
     };
 }
 
-/// A picture in which exactly this rule is broken.
-pub fn broken_alone(random: &mut Random, rule: Rule) -> Vec<u32> {
+/// A picture with this damage alone: some of its rules are broken, and no others.
+pub fn damaged(random: &mut Random, damage: Damage, rules: &[Rule]) -> Vec<u32> {
     loop {
-        if let Some(picture) = try_to_break(random, rule) {
-            if broken(&picture) == [rule] {
+        if let Some(picture) = try_to_break(random, damage) {
+            let broken = broken(&picture);
+            if !broken.is_empty() && broken.iter().all(|rule| rules.contains(rule)) {
                 return picture;
             }
         }
     }
 }
 
-/// A picture in which this rule is the first broken; for rules that can't be broken alone.
-fn broken_first(random: &mut Random, rule: Rule) -> Vec<u32> {
+/// A picture in which this damage breaks the first broken rule; for damages that can't be alone.
+fn damaged_first(random: &mut Random, damage: Damage, rules: &[Rule]) -> Vec<u32> {
     loop {
         let mut picture = World::lively(random, 6).picture;
-        match rule {
-            Rule::PictureMultiple => {
+        match damage {
+            Damage::PictureMultiple => {
                 picture.extend(vec![0; random.below(3) + 1]);
                 picture[LENGTH] = picture.len() as u32;
             }
-            Rule::HeapMultiple => picture[HEAP_LENGTH] += random.between(1, 3),
-            _ => unreachable!("{rule:?} can be broken alone"),
+            Damage::HeapMultiple => picture[HEAP_LENGTH] += random.between(1, 3),
+            _ => unreachable!("{damage:?} can be alone"),
         }
-        if first_broken(&picture) == Some(rule) {
+        if first_broken(&picture).is_some_and(|rule| rules.contains(&rule)) {
             return picture;
         }
     }
@@ -357,45 +359,45 @@ fn furnished(random: &mut Random) -> World {
     World::lively(random, steps)
 }
 
-/// Changes a sound picture so that the rule is likely to be broken, and perhaps no other.
-fn try_to_break(random: &mut Random, rule: Rule) -> Option<Vec<u32>> {
+/// Changes a sound picture so that it is likely to have the damage, and perhaps no other.
+fn try_to_break(random: &mut Random, damage: Damage) -> Option<Vec<u32>> {
     let mut world = furnished(random);
     let job = one_of(random, &world.jobs()[1..]);
     let channel = one_of(random, &world.channels());
     let queue = one_of(random, &world.blocks_of(block::QUEUE)).map(|at| at + block::HEADER);
     let big = random.longword() | 0x100;
     let live = random.one_of(&world.jobs());
-    match rule {
-        Rule::PictureMultiple | Rule::HeapMultiple => return None,
-        Rule::PictureLength => {
+    match damage {
+        Damage::PictureMultiple | Damage::HeapMultiple => return None,
+        Damage::PictureLength => {
             let length = 4 * random.between(100, 255) as usize;
             let heap_length = 4 * random.between(1, (length - HEAP) as u32 / 4 - 1) as usize;
             world = World::new(length, heap_length);
             world.live(random, 12, super::world::LIVELY);
         }
-        Rule::LongwordZero => {
+        Damage::LongwordZero => {
             let n = world.picture[LENGTH];
             world.picture[LENGTH] = random.one_of(&[n + 4, n - 4, n + 1, 0, n << 1, n | 0x1_0000, big, NOBODY]);
         }
-        Rule::LongwordSeven => world.picture[SPARE] = random.one_of(&[1, big, 0x8000_0000, NOBODY]),
-        Rule::HeapLength => {
+        Damage::LongwordSeven => world.picture[SPARE] = random.one_of(&[1, big, 0x8000_0000, NOBODY]),
+        Damage::HeapLength => {
             let length = 4 * random.between(256, 300) as usize;
             world = World::new(length, 0);
             world.live(random, 12, super::world::LIVELY);
         }
-        Rule::TransientLength => {
+        Damage::TransientLength => {
             let length = 4 * random.between(256, 300) as usize;
             world = World::new(length, length - HEAP);
             world.live(random, 12, super::world::LIVELY);
         }
-        Rule::JobZeroBase => {
+        Damage::JobZeroBase => {
             world.picture[job_record(0) + job::BASE] = random.one_of(&[1, 16, 4 * HEAP as u32, big, NOBODY]);
         }
-        Rule::Priority => *world.job_field(live, job::PRIORITY) = random.one_of(&[128, 255, 256, big, NOBODY]),
-        Rule::Accumulated => {
+        Damage::Priority => *world.job_field(live, job::PRIORITY) = random.one_of(&[128, 255, 256, big, NOBODY]),
+        Damage::Accumulated => {
             *world.job_field(live, job::ACCUMULATED) = random.one_of(&[8_192, 8_193, big | 0x2000, NOBODY])
         }
-        Rule::Timeout => {
+        Damage::Timeout => {
             *world.job_field(live, job::TIMEOUT) =
                 random.one_of(&[32_768, 65_535, 0x8000_0000, 0xFFFF_FFFE, 0xFFFF_0000, big | 0x8000]);
             *world.job_field(live, job::ACCUMULATED) = 0;
@@ -403,20 +405,20 @@ fn try_to_break(random: &mut Random, rule: Rule) -> Option<Vec<u32>> {
                 world.picture[CURRENT] = NOBODY;
             }
         }
-        Rule::ChannelOne => {
+        Damage::ChannelOne => {
             world.picture[channel_record(position(channel?)) + channel::ONE] = random.one_of(&[0, 2, big, NOBODY]);
         }
-        Rule::UnusedJobRecords => {
+        Damage::UnusedJobRecords => {
             let k = free_position(world.picture[JOB_MASK])? + random.below(8);
             let field = random.below(JOB_RECORD);
             *world.picture[..CHANNEL_RECORDS].get_mut(job_record(k) + field)? = random.one_of(&[1, big]);
         }
-        Rule::UnusedChannelRecords => {
+        Damage::UnusedChannelRecords => {
             let k = free_position(world.picture[CHANNEL_MASK])? + random.below(8);
             let field = random.below(CHANNEL_RECORD);
             *world.picture[..HEAP].get_mut(channel_record(k) + field)? = random.one_of(&[1, big]);
         }
-        Rule::JobPosition => {
+        Damage::JobPosition => {
             let job = job?;
             let other = random.one_of(&[0, 31, 32, 0x8000, 0xFFFF, (position(job) as u32) ^ 1]);
             *world.job_field(job, job::NUMBER) = job & 0xFFFF_0000 | other;
@@ -424,12 +426,12 @@ fn try_to_break(random: &mut Random, rule: Rule) -> Option<Vec<u32>> {
                 world.picture[CURRENT] = NOBODY;
             }
         }
-        Rule::ChannelPosition => {
+        Damage::ChannelPosition => {
             let channel = channel?;
             let other = random.one_of(&[0, 31, 32, 0x8000, 0xFFFF, (position(channel) as u32) ^ 1]);
             world.picture[channel_record(position(channel))] = channel & 0xFFFF_0000 | other;
         }
-        Rule::JobZeroNumber => {
+        Damage::JobZeroNumber => {
             disown_job_zero(random, &mut world)?;
             let number = number(random.between(1, world.picture[LAST_JOB_TAG].max(1)), 0);
             world.picture[job_record(0) + job::NUMBER] = number;
@@ -437,7 +439,7 @@ fn try_to_break(random: &mut Random, rule: Rule) -> Option<Vec<u32>> {
                 world.picture[CURRENT] = random.one_of(&[number, NOBODY]);
             }
         }
-        Rule::JobZeroExists => {
+        Damage::JobZeroExists => {
             disown_job_zero(random, &mut world)?;
             world.picture[job_record(0)..job_record(1)].fill(0);
             world.picture[JOB_MASK] &= !1;
@@ -445,7 +447,7 @@ fn try_to_break(random: &mut Random, rule: Rule) -> Option<Vec<u32>> {
                 world.picture[CURRENT] = NOBODY;
             }
         }
-        Rule::JobTag => {
+        Damage::JobTag => {
             let job = job?;
             let k = position(job);
             set_job_owner(&mut world, k, NOBODY);
@@ -454,63 +456,69 @@ fn try_to_break(random: &mut Random, rule: Rule) -> Option<Vec<u32>> {
                 world.picture[CURRENT] = random.one_of(&[k as u32, NOBODY]);
             }
         }
-        Rule::ChannelTag => {
+        Damage::ChannelTag => {
             let k = position(channel?);
             world.picture[channel_record(k)] = k as u32;
         }
-        Rule::JobTagTwice => {
+        Damage::JobTagTwice => {
             let (job, other) = (job?, one_of(random, &world.jobs()[1..])?);
             *world.job_field(job, job::NUMBER) = other & 0xFFFF_0000 | position(job) as u32;
             if world.picture[CURRENT] == job {
                 world.picture[CURRENT] = NOBODY;
             }
         }
-        Rule::ChannelTagTwice => {
+        Damage::ChannelTagTwice => {
             let (channel, other) = (channel?, one_of(random, &world.channels())?);
             world.picture[channel_record(position(channel))] = other & 0xFFFF_0000 | position(channel) as u32;
         }
-        Rule::BlockLength => shift_a_border(random, &mut world)?,
-        Rule::BlockKind => {
+        Damage::BlockLength => shift_a_border(random, &mut world)?,
+        Damage::BlockKind => {
             let blocks = [world.blocks_of(block::PLAIN), world.blocks_of(block::FREE)].concat();
             world.picture[random.one_of(&blocks) + block::KIND] = random.one_of(&[4, 5, 256, big, NOBODY]);
         }
-        Rule::StartAddress => {
+        Damage::StartAddress => {
             let blocks = [world.blocks_of(block::PLAIN), world.blocks_of(block::QUEUE)].concat();
             world.picture[one_of(random, &blocks)? + block::START] = random.one_of(&[1, big, NOBODY]);
         }
-        Rule::FreeHeader => {
+        Damage::FreeHeader => {
             let free = random.one_of(&world.blocks_of(block::FREE));
             world.picture[free + block::OWNER] = random.one_of(&[1, NOBODY, big, live | 1]);
         }
-        Rule::QueueLength => world = long_queue(random),
-        Rule::QueueBlock => {
-            let n = &mut world.picture[queue? + queue::LENGTH];
-            *n = match random.below(4) {
+        Damage::QueueLength => world = long_queue(random),
+        Damage::QueueBlock => {
+            let room = queue?;
+            let n = world.picture[room + queue::LENGTH];
+            let other = match random.below(4) {
                 0 => n.wrapping_add(16),
                 1 => n.wrapping_sub(16),
                 2 => random.between(1, 400),
                 _ => queue::LONGEST,
             };
+            world.picture[room + queue::LENGTH] = other;
+            let (index, count) = (world.picture[room + queue::INDEX], world.picture[room + queue::COUNT]);
+            if other > queue::LONGEST || index >= other || count > other {
+                return None;
+            }
         }
-        Rule::QueueIndex => {
+        Damage::QueueIndex => {
             let room = queue?;
             let n = world.picture[room + queue::LENGTH];
             world.picture[room + queue::INDEX] = random.one_of(&[n, n + 1, n + big % 99, 0x8000_0000, NOBODY]);
         }
-        Rule::QueueCount => {
+        Damage::QueueCount => {
             let room = queue?;
             let n = world.picture[room + queue::LENGTH];
             world.picture[room + queue::COUNT] = random.one_of(&[n + 1, n + 2, n + 16, 0x8000_0000, NOBODY]);
         }
-        Rule::QueueZero => world.picture[queue? + queue::ZERO] = random.one_of(&[1, big, NOBODY]),
-        Rule::Tiling => {
+        Damage::QueueZero => world.picture[queue? + queue::ZERO] = random.one_of(&[1, big, NOBODY]),
+        Damage::Tiling => {
             let headers = if random.once_in(2) { world.heap_headers() } else { world.transient_headers() };
             let last = *headers.last()?;
             let length = world.picture[last];
             world.picture[last] =
                 random.one_of(&[length + 16, length + 32, length + 0x1_0000, 0xFFFF_FFF0, 0x8000_0000]);
         }
-        Rule::FreeTouch => {
+        Damage::FreeTouch => {
             let free = random.one_of(&world.blocks_of(block::FREE));
             let length = world.picture[free];
             let lower = 16 * random.between(1, (length / 16).max(2) - 1);
@@ -521,7 +529,7 @@ fn try_to_break(random: &mut Random, rule: Rule) -> Option<Vec<u32>> {
             let upper = free + (lower / 4) as usize;
             world.picture[upper..upper + block::HEADER].copy_from_slice(&[length - lower, 0, 0, 0]);
         }
-        Rule::HeapKinds => {
+        Damage::HeapKinds => {
             let at = free_block_of(random, &world, false)?;
             if random.once_in(2) {
                 let at = place_by_hand(&mut world, at, 16 * random_small(big), block::PLAIN, live)?;
@@ -533,13 +541,13 @@ fn try_to_break(random: &mut Random, rule: Rule) -> Option<Vec<u32>> {
                 add_channel(&mut world, live, 4 * at as u32)?;
             }
         }
-        Rule::TransientKind => {
+        Damage::TransientKind => {
             let at = free_block_of(random, &world, true)?;
             let owner = random.one_of(&[live, NOBODY]);
             let at = place_by_hand(&mut world, at, 16 * random_small(big), block::JOB, owner)?;
             add_job(&mut world, owner, 4 * at as u32)?;
         }
-        Rule::JobBlock => {
+        Damage::JobBlock => {
             let sharing = job.filter(|_| random.once_in(2));
             if let Some(job) = sharing {
                 let record = job_record(position(job));
@@ -556,12 +564,12 @@ fn try_to_break(random: &mut Random, rule: Rule) -> Option<Vec<u32>> {
                 add_job(&mut world, owner, base)?;
             }
         }
-        Rule::BlockJob => {
+        Damage::BlockJob => {
             let at = free_block_of(random, &world, false)?;
             let owner = random.one_of(&[live, NOBODY]);
             place_by_hand(&mut world, at, 16 * random_small(big), block::JOB, owner)?;
         }
-        Rule::JobBlockOwner => {
+        Damage::JobBlockOwner => {
             let k = position(job?);
             let owner = random.one_of(&[live, NOBODY, 0]);
             if random.once_in(2) {
@@ -571,7 +579,7 @@ fn try_to_break(random: &mut Random, rule: Rule) -> Option<Vec<u32>> {
                 world.picture[base + block::OWNER] = owner;
             }
         }
-        Rule::ChannelBlock => {
+        Damage::ChannelBlock => {
             let sharing = channel.filter(|_| random.once_in(2));
             if let Some(channel) = sharing {
                 let record = channel_record(position(channel));
@@ -587,13 +595,13 @@ fn try_to_break(random: &mut Random, rule: Rule) -> Option<Vec<u32>> {
                 add_channel(&mut world, live, base)?;
             }
         }
-        Rule::BlockChannel => {
+        Damage::BlockChannel => {
             let at = free_block_of(random, &world, true)?;
             let n = big % 40 + 1;
             let at = place_by_hand(&mut world, at, (32 + n).next_multiple_of(16), block::QUEUE, live)?;
             write_queue(&mut world, at, n);
         }
-        Rule::ChannelBlockOwner => {
+        Damage::ChannelBlockOwner => {
             let record = channel_record(position(channel?));
             if random.once_in(2) {
                 world.picture[record + channel::OWNER] = live;
@@ -602,7 +610,7 @@ fn try_to_break(random: &mut Random, rule: Rule) -> Option<Vec<u32>> {
                 world.picture[base + block::OWNER] = live;
             }
         }
-        Rule::JobOwner => {
+        Damage::JobOwner => {
             let k = position(job?);
             let smaller = tag(job?) - 1;
             let owner = random.one_of(&[
@@ -613,41 +621,41 @@ fn try_to_break(random: &mut Random, rule: Rule) -> Option<Vec<u32>> {
             ]);
             set_job_owner(&mut world, k, owner);
         }
-        Rule::ChannelOwner => {
+        Damage::ChannelOwner => {
             let record = channel_record(position(channel?));
             let owner = dead_owner(random, live);
             world.picture[record + channel::OWNER] = owner;
             let base = (world.picture[record + channel::BASE] / 4) as usize;
             world.picture[base + block::OWNER] = owner;
         }
-        Rule::PlainOwner => {
+        Damage::PlainOwner => {
             let plain = one_of(random, &world.blocks_of(block::PLAIN))?;
             world.picture[plain + block::OWNER] = dead_owner(random, live);
         }
-        Rule::OwnerTag => {
+        Damage::OwnerTag => {
             let (job, other) = (job?, one_of(random, &world.jobs()[1..])?);
             set_job_owner(&mut world, position(job), other);
         }
-        Rule::JobZeroOwner => world.picture[job_record(0) + job::OWNER] = live,
-        Rule::JobTagGiven => {
+        Damage::JobZeroOwner => world.picture[job_record(0) + job::OWNER] = live,
+        Damage::JobTagGiven => {
             let last = world.picture[LAST_JOB_TAG];
             world.picture[LAST_JOB_TAG] = random.between(0, last);
         }
-        Rule::ChannelTagGiven => {
+        Damage::ChannelTagGiven => {
             let last = world.picture[LAST_CHANNEL_TAG];
             world.picture[LAST_CHANNEL_TAG] = random.between(0, last);
         }
-        Rule::LastJobTag => {
+        Damage::LastJobTag => {
             world.picture[LAST_JOB_TAG] = random.one_of(&[32_768, 65_535, 65_536, big | 0x8000, NOBODY])
         }
-        Rule::LastChannelTag => {
+        Damage::LastChannelTag => {
             world.picture[LAST_CHANNEL_TAG] = random.one_of(&[32_768, 65_535, 65_536, big | 0x8000, NOBODY]);
         }
-        Rule::Current => {
+        Damage::Current => {
             world.picture[CURRENT] =
                 random.one_of(&[live, live + 0x1_0000, 32, 0xFFFF, 0xFFFF_FFFE, big, live | 0x8000]);
         }
-        Rule::WaitedFor => {
+        Damage::WaitedFor => {
             *world.job_field(live, job::WAIT) =
                 random.one_of(&[live, live.wrapping_add(0x1_0000), 31, 32, NOBODY, big]);
             *world.job_field(live, job::TIMEOUT) = WITHOUT_END as u32;
@@ -656,14 +664,17 @@ fn try_to_break(random: &mut Random, rule: Rule) -> Option<Vec<u32>> {
                 world.picture[CURRENT] = NOBODY;
             }
         }
-        Rule::WaitTimeout => {
+        Damage::WaitTimeout => {
             *world.job_field(live, job::WAIT) = job?;
             if random.once_in(2) && world.picture[CURRENT] != live {
                 *world.job_field(live, job::TIMEOUT) = random.between(1, 32_767);
                 *world.job_field(live, job::ACCUMULATED) = 0;
             }
+            if job == Some(live) {
+                return None;
+            }
         }
-        Rule::AccumulatedReady => {
+        Damage::AccumulatedReady => {
             *world.job_field(live, job::ACCUMULATED) = random.one_of(&[1, 8_191, big % 8_191 + 1]);
             if random.once_in(2) && world.picture[CURRENT] != live {
                 *world.job_field(live, job::TIMEOUT) = random.between(1, 9);
