@@ -28,9 +28,10 @@ use Rattle.creating.specs.Create.{owner-found, created, job-registers, create}
 use Rattle.effects.specs.Effects.{naming, prioritized}
 use Rattle.jobs.specs.Calls.{set-priority}
 use Rattle.opening.specs.Calls.{open-channel}
-use Rattle.turns.specs.Bench.{DeskBench}
-use Rattle.turns.proofs.Bench.{desk-bench}
-use Rattle.manager.specs.Door.{trap-one, trap-two, named, checked, called}
+use Rattle.law_picks.specs.Bench.{DeskBench}
+use Rattle.law_picks.proofs.Bench.{desk-bench}
+use Rattle.traps.specs.Traps.{trap-one, trap-two, named}
+use Rattle.manager.specs.Door.{checked, called}
 use Rattle.names.specs.Names.{key-of, number-in, letter, pipe, digit, number, numbered}
 use Rattle.names.specs.Names.{good as good-name, named as name-read}
 

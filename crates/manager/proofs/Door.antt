@@ -15,7 +15,8 @@ use Rattle.sound.specs.Sound.{sound}
 use Rattle.calls.specs.Outcome.{Outcome, refuse, Meets}
 use Rattle.calls.specs.Call.{outcome}
 use Rattle.calls.specs.Registers.{caller}
-use Rattle.manager.specs.Door.{trap-one, trap-two, trap-three, named, checked, with-key, called}
+use Rattle.traps.specs.Traps.{trap-one, trap-two, trap-three, named}
+use Rattle.manager.specs.Door.{checked, with-key, called}
 
 module _ (trap : ℕ) (p d name : List ℕ) where
   pub checked-unsound : sound p ≡ false → outcome (checked trap name) p d ≡ refuse not-sound p d

@@ -36,7 +36,7 @@ fn write_trap(
     out: &mut [u8],
     used: usize,
 ) -> usize {
-    manager::call(trap, registers, name, p);
+    manager::call(p, trap, registers, name);
     writing::write_answer(out, used, registers)
 }
 

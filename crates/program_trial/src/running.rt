@@ -22,7 +22,7 @@ fn answer_of(key: i32) -> Answer {
 // Makes a call.
 fn make_call(p: &mut [u32], call: Call, registers: &mut [u32], name: &[u8]) -> Answer {
     match call {
-        Call::Trap(trap) => answer_of(manager::call(trap, registers, name, p)),
+        Call::Trap(trap) => answer_of(manager::call(p, trap, registers, name)),
         Call::Pick => {
             let picked = manager::pick(p);
             Answer {

@@ -16,7 +16,7 @@ use Rattle.ending.specs.Remove.{remove, force-remove}
 use Rattle.memory.specs.Memory.{longest-room, take, give-back}
 use Rattle.opening.specs.Calls.{open-channel}
 use Rattle.channels.specs.Calls.{close-channel, pending, fetch, send}
-use Rattle.manager.specs.Door.{among, unknown, calls-one, calls-two, calls-three, trap-one, trap-two, trap-three, traps, named}
+use Rattle.traps.specs.Traps.{among, unknown, calls-one, calls-two, calls-three, trap-one, trap-two, trap-three, traps, named}
 
 -- P holds of each call of a list where its number is n
 abbrev Behind : (Call → Type 0) → ℕ → List (ℕ × Call) → Type 0

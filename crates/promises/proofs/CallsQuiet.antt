@@ -46,8 +46,8 @@ use Rattle.queues_kept.proofs.Written.{tables}
 use Rattle.queues_kept.proofs.Ways.{pending-ways, fetch-ways, send-ways}
 use Rattle.queues_kept.proofs.Kept.{fetched-written, sent-written, low-byte}
 use Rattle.keeping.proofs.Tables.{TablesSame, field-same}
-use Rattle.turns.specs.Stretch.{Quiet, Stands}
-use Rattle.turns.proofs.Quiet.{nothing-is-quiet, quiet-after-quiet, kept-or-cleared-is-quiet, kept-is-quiet}
+use Rattle.law_picks.specs.Stretch.{Quiet, Stands}
+use Rattle.law_picks.proofs.Quiet.{nothing-is-quiet, quiet-after-quiet, kept-or-cleared-is-quiet, kept-is-quiet}
 
 -- the calls that leave the picture as it is
 pub information-is-quiet : (j : ℕ) (p d : List ℕ) → Quiet j p (outcome information p d .picture)

@@ -13,7 +13,8 @@ use Rattle.calls.specs.Outcome.{Outcome, refuse, Meets}
 use Rattle.calls.specs.Call.{outcome}
 use Rattle.calls.specs.Registers.{caller}
 use Rattle.calls.proofs.Call.{refusal-changes-nothing}
-use Rattle.manager.specs.Door.{named, checked, with-key, called}
+use Rattle.traps.specs.Traps.{named}
+use Rattle.manager.specs.Door.{checked, with-key, called}
 use Rattle.manager.specs.Turn.{pick-picture, ticking}
 use Rattle.turns.specs.Pick.{picked}
 use Rattle.turns.specs.Tick.{ticked}

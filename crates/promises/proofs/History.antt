@@ -23,7 +23,8 @@ use Rattle.fresh.proofs.Good.{sizes}
 use Rattle.fresh.proofs.Sound.{fresh-is-sound}
 use Rattle.calls.specs.Outcome.{Outcome, refuse}
 use Rattle.calls.specs.Call.{outcome}
-use Rattle.manager.specs.Door.{named, checked, with-key, called}
+use Rattle.traps.specs.Traps.{named}
+use Rattle.manager.specs.Door.{checked, with-key, called}
 use Rattle.manager.specs.Turn.{pick-picture, ticking}
 use Rattle.turned.proofs.Pick.{pick-ages}
 use Rattle.turned.proofs.Tick.{tick-ages}

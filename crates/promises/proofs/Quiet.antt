@@ -11,9 +11,10 @@ use Rattle.picture.specs.declared.Table.the-variants.{Jobs}
 use Rattle.sound.specs.Sound.{sound}
 use Rattle.calls.specs.Outcome.{Outcome, refuse}
 use Rattle.calls.specs.Call.{outcome}
-use Rattle.manager.specs.Door.{named, checked, with-key, called}
-use Rattle.turns.specs.Stretch.{Stands, Quiet}
-use Rattle.turns.proofs.Quiet.{nothing-is-quiet}
+use Rattle.traps.specs.Traps.{named}
+use Rattle.manager.specs.Door.{checked, with-key, called}
+use Rattle.law_picks.specs.Stretch.{Stands, Quiet}
+use Rattle.law_picks.proofs.Quiet.{nothing-is-quiet}
 use Rattle.promises.specs.History.{Event, trap, after}
 use Rattle.promises.specs.Turn.{Unnamed}
 use Rattle.promises.proofs.Calls.{EachCall, each-call}

@@ -30,7 +30,7 @@ use Rattle.channels.specs.Calls.{close-channel}
 use Rattle.channels.proofs.Found.{live-below}
 use Rattle.channels_kept.proofs.Forgotten.{Forgotten, forgotten-is}
 use Rattle.channels_kept.proofs.Close.{close-channel-ways}
-use Rattle.turns.specs.Stretch.{Stands, Quiet}
+use Rattle.law_picks.specs.Stretch.{Stands, Quiet}
 use Rattle.tree.specs.Tree.{tree}
 use Rattle.emptying.specs.Taken.{channels-of}
 use Rattle.ending.specs.Ended.{ended}
@@ -51,7 +51,7 @@ use Rattle.opening.specs.Calls.{open-channel}
 use Rattle.opening_kept.proofs.Ways.{Checked, open-channel-ways}
 use Rattle.opening_kept.proofs.Opened.{jobs-same}
 use Rattle.channels_kept.proofs.Jobs.{JobsSame}
-use Rattle.turns.proofs.Quiet.{nothing-is-quiet}
+use Rattle.law_picks.proofs.Quiet.{nothing-is-quiet}
 
 -- what is quiet: every accumulated of the table is kept
 kept-below-is-quiet : (j : ℕ) → j < positions Jobs → (p q : List ℕ) → ((i : ℕ) → i < positions Jobs → accumulated q i ≡ accumulated p i) → Quiet j p q

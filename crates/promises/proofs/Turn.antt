@@ -10,9 +10,9 @@ use Rattle.facts.proofs.View.{view}
 use Rattle.manager.specs.Turn.{pick-picture, ticking}
 use Rattle.turns.specs.Pick.{picked}
 use Rattle.turns.specs.Tick.{ticked}
-use Rattle.turns.specs.Stretch.{Stands, Quiet, Stretch}
-use Rattle.turns.proofs.Fairness.{no-turn-is-lost}
-use Rattle.turns.proofs.Quiet.{tick-is-quiet}
+use Rattle.law_picks.specs.Stretch.{Stands, Quiet, Stretch}
+use Rattle.law_picks.proofs.Fairness.{no-turn-is-lost}
+use Rattle.law_picks.proofs.Quiet.{tick-is-quiet}
 use Rattle.turned.proofs.Pick.{sound-is-orderly}
 use Rattle.promises.specs.History.{Event, trap, pick, tick, after}
 use Rattle.promises.specs.Turn.{Unnamed, Stays, answers, TurnNotLost}

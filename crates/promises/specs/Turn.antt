@@ -12,7 +12,7 @@ use Rattle.sound.specs.Sound.{sound}
 use Rattle.calls.specs.Registers.{D1, meant}
 use Rattle.fairness.specs.Law.{InEvery}
 use Rattle.turns.specs.Pick.{picked-number}
-use Rattle.turns.specs.Stretch.{Stands, pick-bound}
+use Rattle.law_picks.specs.Stretch.{Stands, pick-bound}
 use Rattle.promises.specs.History.{Event, trap, pick, tick, after}
 
 -- the trap and the code of the priority call

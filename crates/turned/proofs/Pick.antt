@@ -23,11 +23,11 @@ use Rattle.facts.proofs.View.{view, sound-again}
 use Rattle.facts.proofs.Ages.{Ages}
 use Rattle.steady.proofs.Steady.{Steady, Turning, Left, steady-sound, steady-ages, steady-live, steady-used}
 use Rattle.turns.specs.Pick.{chosen-job, accumulated-after, picked}
-use Rattle.turns.specs.Stretch.{Orderly, Chosen}
-use Rattle.turns.proofs.Rule.{chosen-is-who-the-rule-picks, ready-is-used}
+use Rattle.law_picks.specs.Stretch.{Orderly, Chosen}
+use Rattle.law_picks.proofs.Rule.{chosen-is-who-the-rule-picks, ready-is-used}
 use Rattle.turns.proofs.Pick.{idle-keeps, ready-same}
-use Rattle.turns.proofs.Given.{pick-changes-only, pick-keeps-the-length, pick-keeps-the-head, pick-keeps-the-rest, pick-gives-a-turn, nobody-picked-leaves}
-use Rattle.turns.proofs.Kept.{pick-keeps-fields, pick-keeps-the-number, pick-keeps-the-priority, pick-keeps-the-timeout, pick-keeps-who-is-ready, pick-accumulates, pick-holds-accumulated, pick-keeps-orderly, pick-leaves-a-ready-job-current}
+use Rattle.law_picks.proofs.Given.{pick-changes-only, pick-keeps-the-length, pick-keeps-the-head, pick-keeps-the-rest, pick-gives-a-turn, nobody-picked-leaves}
+use Rattle.law_picks.proofs.Kept.{pick-keeps-fields, pick-keeps-the-number, pick-keeps-the-priority, pick-keeps-the-timeout, pick-keeps-who-is-ready, pick-accumulates, pick-holds-accumulated, pick-keeps-orderly, pick-leaves-a-ready-job-current}
 
 -- a sound picture is orderly
 pub sound-is-orderly : (p : List ℕ) → Sound p → Orderly p

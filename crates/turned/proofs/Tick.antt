@@ -22,9 +22,9 @@ use Rattle.facts.proofs.View.{view, sound-again}
 use Rattle.facts.proofs.Ages.{Ages}
 use Rattle.steady.proofs.Steady.{Steady, Turning, Left, steady-sound, steady-ages, steady-live, steady-used}
 use Rattle.turns.specs.Tick.{fallen, first-negative, ticked}
-use Rattle.turns.specs.Stretch.{Orderly}
+use Rattle.law_picks.specs.Stretch.{Orderly}
 use Rattle.turns.proofs.Tick.{none-stays, negative-stays, fallen-is-no-longer, tick-keeps-the-head, tick-keeps-the-rest, tick-keeps-the-length, tick-keeps-other-fields, tick-keeps-the-number, tick-keeps-the-priority, tick-keeps-accumulated, tick-lets-timeouts-fall}
-use Rattle.turns.proofs.Kept.{tick-keeps-ready, tick-keeps-orderly}
+use Rattle.law_picks.proofs.Kept.{tick-keeps-ready, tick-keeps-orderly}
 use Rattle.turned.proofs.Pick.{sound-is-orderly}
 
 module _ (p : List ℕ) (S : Sound p) where

@@ -1,6 +1,4 @@
--- The definitions that the contracts cite, and what demand 3 says.
+-- The definitions that the contracts cite.
 pub mod Fields
 pub mod Pick
 pub mod Tick
-pub mod Stretch
-pub mod Bench

@@ -12,9 +12,9 @@ use Rattle.manager.proofs.answer_call.Tie as tie
 use Rattle.manager.proofs.answer_call.Reads as reads
 use Rattle.manager.proofs.answer_call.Lts as lts
 use Rattle.calls.proofs.caller_of.Reads as caller-of-reads
-use Rattle.manager.proofs.trap_one.Reads as trap-one-reads
-use Rattle.manager.proofs.trap_three.Reads as trap-three-reads
-use Rattle.manager.proofs.trap_two.Reads as trap-two-reads
+use Rattle.traps.proofs.trap_one.Reads as trap-one-reads
+use Rattle.traps.proofs.trap_three.Reads as trap-three-reads
+use Rattle.traps.proofs.trap_two.Reads as trap-two-reads
 use Rattle.sound.proofs.is_sound.Reads as is-sound-reads
 use Rattle.words.proofs.word.Reads as word-reads
 

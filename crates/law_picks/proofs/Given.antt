@@ -14,10 +14,10 @@ use Rattle.picture.specs.Layout.{nobody, current-word, positions, width, first-
 use Rattle.picture.specs.Keys.{done}
 use Rattle.picture.specs.Records.{slot, field, number, accumulated, delivered, accumulated-field, key-field}
 use Rattle.picture.specs.declared.Table.the-variants.{Jobs}
 use Rattle.turns.specs.Fields.{set-each}
 use Rattle.turns.specs.Pick.{chosen-job, accumulated-after, turn-given, picked, picked-number, picked-key}
 use Rattle.turns.proofs.Fields.{length-set-each, set-each-other, set-each-at}
-use Rattle.turns.proofs.Rule.{chosen-is-who-the-rule-picks}
+use Rattle.law_picks.proofs.Rule.{chosen-is-who-the-rule-picks}
 
 -- what a pick of the job at m makes of p
 pub record Given (p : List ℕ) (m : ℕ) (q : List ℕ) : Type 0 where

@@ -13,9 +13,9 @@ use Rattle.words.proofs.Tests.{both}
 use Rattle.picture.specs.Layout.{positions}
 use Rattle.picture.specs.Records.{priority, accumulated, timeout, used, ready}
 use Rattle.picture.specs.declared.Table.the-variants.{Jobs}
 use Rattle.turns.specs.Pick.{preferred, chosen-below, chosen-job}
-use Rattle.turns.specs.Stretch.{Chosen}
+use Rattle.law_picks.specs.Stretch.{Chosen}
 use Rattle.turns.proofs.Pick.{idle-passed, first-taken, more-taken, less-passed}
 
 abbrev pub NobodyReady : List ℕ → ℕ → Type 0
 NobodyReady p n = (i : ℕ) → i < n → ready p i ≡ true → ⊥

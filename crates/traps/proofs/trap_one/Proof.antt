@@ -1,15 +1,15 @@
 use Rattle.calls.specs.Call.{outcome}
-use Rattle.manager.specs.Door.{trap-one}
+use Rattle.traps.specs.Traps.{trap-one}
 use Rattle.calls.proofs.Outcome.{meets-refuse}
 use borrow.Author.Tests.{ne-eqb}
 use mir.ValLaws.{toZ-ofZ}
 use mir.Syntax.{w32}
 use mathlib.Core.Path.{refl, sym, _∙_}
 use borrow.Author.Needs.{needs}
-use Rattle.manager.proofs.trap_one.Statement.{statement}
-use Rattle.manager.proofs.trap_one.Tie as tie
-use Rattle.manager.proofs.trap_one.Reads as reads
-use Rattle.manager.proofs.trap_one.Lts as lts
+use Rattle.traps.proofs.trap_one.Statement.{statement}
+use Rattle.traps.proofs.trap_one.Tie as tie
+use Rattle.traps.proofs.trap_one.Reads as reads
+use Rattle.traps.proofs.trap_one.Lts as lts
 use Rattle.asking.proofs.ask.Reads as ask-reads
 use Rattle.creating.proofs.create.Reads as create-reads
 use Rattle.ending.proofs.force_remove.Reads as force-remove-reads

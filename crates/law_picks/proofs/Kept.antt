@@ -16,14 +16,14 @@ use Rattle.picture.specs.Layout.{nobody, current-word, positions, width}
 use Rattle.picture.specs.Records.{slot, field, number, priority, accumulated, timeout, ready, accumulated-field, key-field, number-field, priority-field, timeout-field}
 use Rattle.picture.specs.declared.Table.the-variants.{Jobs}
 use Rattle.picture.specs.Layout.{hold}
 use Rattle.turns.specs.Pick.{chosen-job, accumulated-after, picked}
 use Rattle.turns.specs.Tick.{ticked}
-use Rattle.turns.specs.Stretch.{Orderly, Stands}
+use Rattle.law_picks.specs.Stretch.{Orderly, Stands}
 use Rattle.turns.proofs.Pick.{ready-same, picked-has-none, idle-keeps, ready-gains}
-use Rattle.turns.proofs.Rule.{chosen-is-who-the-rule-picks}
-use Rattle.turns.proofs.Given.{pick-changes-only, pick-keeps-the-length, pick-gives-a-turn, nobody-picked-leaves}
+use Rattle.law_picks.proofs.Rule.{chosen-is-who-the-rule-picks}
+use Rattle.law_picks.proofs.Given.{pick-changes-only, pick-keeps-the-length, pick-gives-a-turn, nobody-picked-leaves}
 use Rattle.turns.proofs.Tick.{none-stays, tick-keeps-the-number, tick-keeps-the-priority, tick-keeps-accumulated, tick-keeps-the-length, tick-lets-timeouts-fall}
-use Rattle.turns.proofs.Quiet.{kept-record-stands}
+use Rattle.law_picks.proofs.Quiet.{kept-record-stands}
 
 -- a pick keeps every field of every job but accumulated and the key to deliver
 pub pick-keeps-fields : (p : List ℕ) (k f : ℕ) → f < width Jobs → f ≢ accumulated-field → f ≢ key-field → field (picked p) Jobs k f ≡ field p Jobs k f

@@ -15,13 +15,13 @@ use Rattle.fairness.specs.Turns.{Turn, Turns}
 use Rattle.picture.specs.Layout.{greatest-priority, hold}
 use Rattle.fairness.specs.Law.{within, InEvery}
 use Rattle.fairness.proofs.Fair.{picked-among, length-row}
 use Rattle.turns.specs.Pick.{chosen-job, accumulated-after, picked, picked-number}
-use Rattle.turns.specs.Stretch.{Chosen, Orderly, Stands, Quiet, Stretch, over, pick, quiet, NoTurnLost}
-use Rattle.turns.proofs.Rule.{someone-is-chosen}
+use Rattle.law_picks.specs.Stretch.{Chosen, Orderly, Stands, Quiet, Stretch, over, pick, quiet, NoTurnLost}
+use Rattle.law_picks.proofs.Rule.{someone-is-chosen}
 use Rattle.turns.proofs.Pick.{picked-has-none, idle-keeps, ready-gains}
-use Rattle.turns.proofs.Given.{pick-answers-the-number}
-use Rattle.turns.proofs.Kept.{pick-accumulates}
-use Rattle.turns.proofs.Quiet.{nothing-is-quiet, quiet-after-quiet}
+use Rattle.law_picks.proofs.Given.{pick-answers-the-number}
+use Rattle.law_picks.proofs.Kept.{pick-accumulates}
+use Rattle.law_picks.proofs.Quiet.{nothing-is-quiet, quiet-after-quiet}
 
 module _ (n j g : ℕ) (jn : j < positions Jobs) where
   module _ (p q : List ℕ) (ok : Orderly p) (s : Stands n j g p) (still : Quiet j (picked p) q) where

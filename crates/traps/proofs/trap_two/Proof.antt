@@ -1,15 +1,15 @@
 use Rattle.calls.specs.Call.{outcome}
-use Rattle.manager.specs.Door.{trap-two}
+use Rattle.traps.specs.Traps.{trap-two}
 use Rattle.calls.proofs.Outcome.{meets-refuse}
 use borrow.Author.Tests.{ne-eqb}
 use mir.ValLaws.{toZ-ofZ}
 use mir.Syntax.{w32}
 use mathlib.Core.Path.{refl, sym, _∙_}
 use borrow.Author.Needs.{needs}
-use Rattle.manager.proofs.trap_two.Statement.{statement}
-use Rattle.manager.proofs.trap_two.Tie as tie
-use Rattle.manager.proofs.trap_two.Reads as reads
-use Rattle.manager.proofs.trap_two.Lts as lts
+use Rattle.traps.proofs.trap_two.Statement.{statement}
+use Rattle.traps.proofs.trap_two.Tie as tie
+use Rattle.traps.proofs.trap_two.Reads as reads
+use Rattle.traps.proofs.trap_two.Lts as lts
 use Rattle.channels.proofs.close_channel.Reads as close-channel-reads
 use Rattle.opening.proofs.open_channel.Reads as open-channel-reads
 

@@ -1,15 +1,15 @@
 use Rattle.calls.specs.Call.{outcome}
-use Rattle.manager.specs.Door.{trap-three}
+use Rattle.traps.specs.Traps.{trap-three}
 use Rattle.calls.proofs.Outcome.{meets-refuse}
 use borrow.Author.Tests.{ne-eqb}
 use mir.ValLaws.{toZ-ofZ}
 use mir.Syntax.{w32}
 use mathlib.Core.Path.{refl, sym, _∙_}
 use borrow.Author.Needs.{needs}
-use Rattle.manager.proofs.trap_three.Statement.{statement}
-use Rattle.manager.proofs.trap_three.Tie as tie
-use Rattle.manager.proofs.trap_three.Reads as reads
-use Rattle.manager.proofs.trap_three.Lts as lts
+use Rattle.traps.proofs.trap_three.Statement.{statement}
+use Rattle.traps.proofs.trap_three.Tie as tie
+use Rattle.traps.proofs.trap_three.Reads as reads
+use Rattle.traps.proofs.trap_three.Lts as lts
 use Rattle.channels.proofs.fetch.Reads as fetch-reads
 use Rattle.channels.proofs.pending.Reads as pending-reads
 use Rattle.channels.proofs.send.Reads as send-reads

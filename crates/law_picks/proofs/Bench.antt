@@ -14,11 +14,11 @@ use Rattle.picture.specs.Layout.{positions}
 use Rattle.picture.specs.Records.{slot, number, priority, accumulated, ready}
 use Rattle.picture.specs.declared.Table.the-variants.{Jobs}
 use Rattle.picture.specs.Layout.{greatest-priority}
 use Rattle.turns.specs.Fields.{set-each}
 use Rattle.turns.specs.Pick.{preferred, chosen-below, chosen-job, accumulated-after, turn-given, picked, picked-number}
-use Rattle.turns.specs.Stretch.{Orderly, Stands, Stretch, over, pick, pick-bound}
-use Rattle.turns.specs.Bench.{set-up, picks, answers, full-house, last-position, last-number, DeskBench, WaitsAsLong}
-use Rattle.turns.proofs.Kept.{pick-keeps-orderly, pick-keeps-standing}
+use Rattle.law_picks.specs.Stretch.{Orderly, Stands, Stretch, over, pick, pick-bound}
+use Rattle.law_picks.specs.Bench.{set-up, picks, answers, full-house, last-position, last-number, DeskBench, WaitsAsLong}
+use Rattle.law_picks.proofs.Kept.{pick-keeps-orderly, pick-keeps-standing}
 
 -- the desk bench's picks
 pub desk-bench : DeskBench

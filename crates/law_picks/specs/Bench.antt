@@ -8,8 +8,8 @@ use Rattle.picture.specs.Layout.{nobody, positions, width, heap-base}
 use Rattle.picture.specs.Numbers.{number-of}
 use Rattle.picture.specs.declared.Table.the-variants.{Jobs, Channels}
 use Rattle.picture.specs.Layout.{greatest-priority}
 use Rattle.turns.specs.Pick.{chosen-job, picked, picked-number}
-use Rattle.turns.specs.Stretch.{Stretch, pick-bound}
+use Rattle.law_picks.specs.Stretch.{Stretch, pick-bound}
 
 -- the picture's size and its heap, as in the session's first picture
 abbrev pub bench-size : ℕ

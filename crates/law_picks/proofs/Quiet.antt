@@ -11,10 +11,10 @@ use Rattle.words.specs.Words.{put}
 use Rattle.picture.specs.Layout.{positions}
 use Rattle.picture.specs.Records.{slot, number, priority, accumulated, timeout, accumulated-field}
 use Rattle.picture.specs.declared.Table.the-variants.{Jobs}
-use Rattle.turns.specs.Stretch.{Stands, Quiet, Stretch, quiet}
+use Rattle.law_picks.specs.Stretch.{Stands, Quiet, Stretch, quiet}
 use Rattle.turns.specs.Tick.{ticked}
 use Rattle.turns.proofs.Pick.{ready-same}
 use Rattle.turns.proofs.Tick.{tick-keeps-accumulated}
 
 -- what is quiet: nothing, and one quiet thing after another
 pub nothing-is-quiet : (j : ℕ) (p : List ℕ) → Quiet j p p

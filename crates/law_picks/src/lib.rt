@@ -1,0 +1,1 @@
+// The pick's rule in words, and the law of turns for real pictures: laws only.
