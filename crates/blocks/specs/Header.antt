@@ -20,7 +20,7 @@ holder-field = 2
 abbrev pub start-field : ℕ
 start-field = 3
 
--- "A queue's room: length n, index of the oldest byte, count, 0, then the bytes"
+-- "A queue's room: length n .., index of the oldest byte .., count .., 0, then the bytes"
 abbrev pub queue-length-field : ℕ
 queue-length-field = 4
 

@@ -37,7 +37,7 @@ pending p d = record {
   registers = d;
 }
 
--- "$1 takes the oldest into D1 (upper bits 0)"
+-- "$1 takes the oldest into D1 (upper bits 0; .."
 unfoldable pub fetch : Call
 fetch p d = record {
   checks = at-channel p d (waits p (queue-named p d), not-complete);

@@ -21,7 +21,7 @@ use Rattle.creating.specs.declared.OwnerFound.the-variants.{Of, Dead}
 abbrev pub negative : ℕ → Bool
 negative n = leb 2147483648 n
 
--- "no owner; otherwise D1 must be live and the new job is owned by the caller"
+-- "no owner; otherwise D1 must be live (-2) and the new job is owned by the caller"
 unfoldable pub owner-found : List ℕ → ℕ → OwnerFound
 owner-found p n = cond (negative n) (Of nobody) (cond (live p Jobs n) (Of (caller p)) Dead)
 

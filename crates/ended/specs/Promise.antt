@@ -1,4 +1,4 @@
--- "Ending a tree takes the job, all its descendants, their job blocks, plain blocks, channels and queue blocks, and no more."
+-- Demand 2: "Ending a job takes that job, its descendants and what they own, and no more": their job blocks, plain blocks, channels and queue blocks.
 -- p is the picture before, q the picture after the tree of the job at position t was ended with the key to deliver.
 use Prim.Native.Nat.{ℕ, _+_, _*_, _/_, _≤_, _<_}
 use mathlib.Core.Path.{_≡_}

@@ -10,7 +10,7 @@ use Rattle.picture.specs.Numbers.{number-of, free-position}
 use Rattle.picture.specs.declared.Table.{Table}
 use Rattle.masks.specs.Masks.{with-bit}
 
--- "Position (the lowest clear bit of the mask)": one is free
+-- "Position (the lowest clear bit of the job mask)", and of the channel mask: one is free
 unfoldable pub has-position : List ℕ → Table → Bool
 has-position p t = ltb (free-position p t) (positions t)
 

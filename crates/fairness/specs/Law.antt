@@ -1,4 +1,4 @@
--- "A job that stays ready all through, at one priority p from 1 to 127, is picked at least once in every 2 + floor(3810 / p) picks in a row":
+-- "A job that stays ready all through, at one priority p from 1 to 127, .. is picked at least once in every 2 + floor(3810 / p) picks in a row":
 -- the law over any number of positions n, any greatest priority g and any hold h.
 use mathlib.Core.Path.{_≡_}
 use mathlib.Core.List.{List, List·Memᴰ}

@@ -1,4 +1,4 @@
--- Document 01: "Header: whole length in bytes; kind; owner; start address for a job, else 0."
+-- Document 01: "Header: whole length in bytes ..; kind ..; owner; start address for a job, else 0."
 use Prim.Native.Nat.{ℕ}
 use mathlib.Core.List.{List}
 use Rattle.blocks.specs.Header.{with-size, with-kind, with-holder, with-start}

@@ -1,4 +1,4 @@
--- "Every block in use other than those placed or given back keeps every longword", header and room.
+-- Every block in use other than those placed or given back keeps every longword, header and room.
 use Prim.Native.Nat.{ℕ, _+_, _-_, _/_, _≤_, _<_}
 use mathlib.Core.Path.{_≡_, refl, sym, subst}
 use mathlib.Core.Bool.{Bool, false}

@@ -1,4 +1,4 @@
--- "-3: no free block of that area is long enough": given exactly then, once the checks before it have passed. One law for both areas and all calls that place.
+-- -3, "no free block of that area is long enough": given exactly then, once the checks before it have passed. One law for both areas and all calls that place.
 use Prim.Native.Nat.{ℕ}
 use mathlib.Core.Path.{_≡_, refl, sym, ap, _∙_}
 use mathlib.Core.Bool.{Bool, true, false}

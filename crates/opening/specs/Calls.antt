@@ -13,7 +13,7 @@ use Rattle.entering.specs.Entry.{has-position, has-tag, next-number}
 use Rattle.names.specs.Names.{name-check, number-in, named}
 use Rattle.opening.specs.Effects.{queue-bytes, opened, channel-registers}
 
--- "Trap 2 $1: job D1; name PIPE_n; position (lowest), tag, room for 32 + n rounded up to 16. D1 owner, A0 channel." The name is s.
+-- "Trap 2 $1: job D1; name PIPE_n, either case ..; position (lowest), tag, room for 32 + n rounded up to 16. D1 owner, A0 channel." The name is s.
 unfoldable pub open-channel : List ℕ → Call
 open-channel s p d = record {
   checks =

@@ -15,7 +15,7 @@ use Rattle.entering.specs.Entry.{next-tag, entered}
 abbrev pub queue-bytes : ℕ → ℕ
 queue-bytes n = rounded (32 + n)
 
--- an empty queue of length n, owned by o, placed at i: "length n, index of the oldest byte, count, 0", all but n 0
+-- an empty queue of length n, owned by o, placed at i: of "length n .., index of the oldest byte .., count .., 0" all but n are 0
 unfoldable pub queued : List ℕ → ℕ → ℕ → ℕ → List ℕ
 queued p i o n = with-queue-length (placed p i (queue-bytes n) queue-kind o 0) i n
 

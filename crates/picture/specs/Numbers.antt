@@ -1,4 +1,4 @@
--- Document 01: "A number is tag × 65,536 + position. Within its kind a number names exactly one live entry or names none."
+-- Document 01: "A number is tag × 65,536 + position. .. Within its kind a number names exactly one live entry or names none."
 use Prim.Native.Nat.{ℕ, _+_, _*_, _/_, _%_}
 use mathlib.Core.Bool.{Bool, _&&_, cond}
 use mathlib.Core.List.{List}

@@ -30,7 +30,7 @@ owner-field = 1
 abbrev pub base-field : ℕ
 base-field = 2
 
--- of a job: "priority, accumulated, timeout, number of the job waited for, key to deliver"
+-- of a job: "priority .., accumulated .., timeout .., number of the job waited for .., key to deliver"
 abbrev pub priority-field : ℕ
 priority-field = 3
 

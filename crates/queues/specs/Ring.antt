@@ -1,4 +1,4 @@
--- Document 01: "A queue's room: length n, index of the oldest byte (below n), count (0 to n)". The queue at i is that of the block at i.
+-- Document 01: "A queue's room: length n .., index of the oldest byte (below n), count (0 to n)". The queue at i is that of the block at i.
 use Prim.Native.Nat.{ℕ, zero, suc, _+_, _-_, _≤_, _<_}
 use mathlib.Core.Bool.{Bool, cond}
 use mathlib.Core.List.{List, [], _∷_, _++_}
@@ -33,11 +33,11 @@ full p i = leb (queue-length p i) (queue-count p i)
 unfoldable pub oldest-byte : List ℕ → ℕ → ℕ
 oldest-byte p i = byte-at p i (queue-oldest p i)
 
--- "takes the oldest: the byte stays, the index steps up, round at n"
+-- "takes the oldest .. the byte stays, the index steps up, round at n"
 unfoldable pub fetched : List ℕ → ℕ → List ℕ
 fetched p i = with-queue-count (with-queue-oldest p i (index p i 1)) i (queue-count p i - 1)
 
--- "writes behind the newest"
+-- "writes D1's low byte behind the newest"
 unfoldable pub sent : List ℕ → ℕ → ℕ → List ℕ
 sent p i b = with-queue-count (with-byte-at p i (index p i (queue-count p i)) b) i (queue-count p i + 1)
 

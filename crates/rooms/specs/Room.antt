@@ -11,7 +11,7 @@ use Rattle.placing.specs.declared.Placement.{Placement}
 use Rattle.placing.specs.declared.Placement.the-variants.{At, Nowhere}
 use Rattle.calls.specs.Call.{Check}
 
--- the length of a block with n bytes of room: "16 + n rounded up to 16"
+-- the length of a block with n bytes of room: 16 + n, "rounded up to 16"
 abbrev pub block-length : ℕ → ℕ
 block-length n = rounded (16 + n)
 
