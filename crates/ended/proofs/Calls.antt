@@ -15,6 +15,7 @@ use Rattle.picture.specs.Keys.{done, not-complete, invalid-job, bad-parameter}
 use Rattle.picture.specs.declared.Table.{Table}
 use Rattle.picture.specs.declared.Table.the-variants.{Jobs, Channels}
 use Rattle.picture.proofs.Numbers.{live-is}
+use Rattle.picture.proofs.Members.{spares-last}
 use Rattle.sound.specs.Sound.{sound}
 use Rattle.facts.proofs.View.{view}
 use Rattle.facts.proofs.Ages.{Ages, ages-still}
@@ -101,8 +102,8 @@ module _ (p d : List ℕ) where
         T = ended-tables p (view p s) (asked p d) (D3 d) u z
 
         same : (t : Table) → word p (last-word t) ≤ word (ended p (asked p d) (D3 d)) (last-word t)
-        same Jobs = rw (T .head (last-word Jobs) (omega arith) (λ z. omega arith) (λ z. omega arith) (λ z. omega arith)) (omega arith)
-        same Channels = rw (T .head (last-word Channels) (omega arith) (λ z. omega arith) (λ z. omega arith) (λ z. omega arith)) (omega arith)
+        same Jobs = rw (T .head (last-word Jobs) (omega arith) (λ z. omega arith) (λ t. spares-last t Jobs)) (omega arith)
+        same Channels = rw (T .head (last-word Channels) (omega arith) (λ z. omega arith) (λ t. spares-last t Channels)) (omega arith)
 
     pub remove-ages : (t : Table) → Ages p (remove p d .picture) t
     unfolding Older
