@@ -8,7 +8,7 @@ use blocks::QUEUE_LENGTH;
 use blocks::QUEUE_OLDEST;
 use blocks::QUEUE_ZERO;
 use blocks::START;
-use tables::word_at;
+use picture::word_at;
 use words::word;
 ghost use mathlib.Core.Path.{_≡_};
 ghost use Prim.Native.Nat.{_+_, _<_, _≤_};

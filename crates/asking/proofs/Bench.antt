@@ -6,7 +6,7 @@ use lib.ListN.{replicate}
 use lib.Seq.{sets}
 use Rattle.picture.specs.Layout.{nobody}
 use Rattle.picture.specs.Records.{used}
-use Rattle.tree.specs.Mask.{mask}
+use Rattle.masks.specs.Masks.{mask}
 use Rattle.tree.specs.Tree.{climbs, in-tree, tree}
 use Rattle.asking.specs.Next.{nearer, next-below, next-member}
 
@@ -19,13 +19,13 @@ jobs =
     32 (131075 ∷ 65538 ∷ [])
 
 after-job-2 : next-member jobs (tree jobs 2) 1 ≡ 131075
-unfolding jobs climbs in-tree mask tree used nearer next-below next-member
+unfolding jobs climbs in-tree mask tree used nearer next-below next-member with-bit members
 after-job-2 = refl
 
 after-job-3 : next-member jobs (tree jobs 2) 2 ≡ 196609
-unfolding jobs climbs in-tree mask tree used nearer next-below next-member
+unfolding jobs climbs in-tree mask tree used nearer next-below next-member with-bit members
 after-job-3 = refl
 
 after-job-1 : next-member jobs (tree jobs 2) 3 ≡ 0
-unfolding jobs climbs in-tree mask tree used nearer next-below next-member
+unfolding jobs climbs in-tree mask tree used nearer next-below next-member with-bit members
 after-job-1 = refl

@@ -28,16 +28,16 @@ const SUSPENDED: u32 = 0xFF00_0000;
 const HEADER_BYTES: u32 = 16;
 
 // The job at position k is a member of the mask, has a greater tag than `tag`, and a smaller one than the job n; 0 is none.
-fn is_nearer(p: &[u32], mask: u32, tag: u32, n: u32, k: usize) -> bool
+fn is_nearer(p: &[u32], mask: u64, tag: u32, n: u32, k: usize) -> bool
     requires { ⌜ k < positions Jobs ⌝ }
     ensures { λ r. ⌜ r ≡ nearer (now (p .entry)) mask tag n k ⌝ }
 {
     let own = picture::tag_of(field_of(p, Table::Jobs, k, picture::NUMBER));
-    words::is_set(mask, k) & ((tag < own) & ((n == 0) | (own < picture::tag_of(n))))
+    masks::is_member(mask, k) & ((tag < own) & ((n == 0) | (own < picture::tag_of(n))))
 }
 
 // The number of the member of the mask with the next tag after `tag`, or 0.
-pub fn next_member(p: &[u32], mask: u32, tag: u32) -> u32
+pub fn next_member(p: &[u32], mask: u64, tag: u32) -> u32
     ensures { λ r. ⌜ r ≡ nextMember (now (p .entry)) mask tag ⌝ }
 {
     let mut n: u32 = 0;

@@ -5,7 +5,7 @@ use mathlib.Core.Path.{_≡_, refl}
 use mathlib.Core.List.{List, [], _∷_}
 use lib.IntN.{ℤ}
 use Rattle.words.specs.Words.{clear}
-use Rattle.words.specs.Bits.{lowest-clear}
+use Rattle.masks.specs.Masks.{lowest-clear}
 use Rattle.picture.specs.Keys.{done, out-of-memory, bad-name, bad-parameter}
 use Rattle.picture.specs.Records.{used, ready}
 use Rattle.picture.specs.Numbers.{live, job-at, free-position}
@@ -108,7 +108,7 @@ cases =
 
 -- "Positions 0, 1, 2 ready at 32, 64, 127, all accumulated 0: picks 0, 2, 1, 2, 0, 1, 2, 0."
 pub table : Answered cases × DeskBench
-unfolding fresh clear lowest-clear used ready live free-position good next starts-within starts claims pair claimed own housed zero-base priority-within accumulated-within timeout-within ends-in-one blank positioned zero-exists tag-within tags-differ tag-once owner-live owner-older zero-unowned tag-given waits-well idle-zero length-whole kind-known start-zero free-blank queue-room tiles untouched kind-fits holder-live size-right zero-right heap-right last-within current-ready sound header fits chosen split placed longer longest with-bit job-at answer meant longest-room length-good room-registers taken take has-position has-tag recorded counted entered owner-found created job-registers create naming prioritized set-priority open-channel trap-one trap-two named checked called key-of number-in letter pipe digit number numbered good-name name-read outcome
+unfolding fresh clear lowest-clear used ready live free-position good next starts-within starts claims pair claimed own housed zero-base priority-within accumulated-within timeout-within ends-in-one blank positioned zero-exists tag-within tags-differ tag-once owner-live owner-older zero-unowned tag-given waits-well idle-zero length-whole kind-known start-zero free-blank queue-room tiles untouched kind-fits holder-live size-right zero-right heap-right last-within current-ready sound header fits chosen split placed longer longest with-bit job-at answer meant longest-room length-good room-registers taken take has-position has-tag recorded counted entered owner-found created job-registers create naming prioritized set-priority open-channel trap-one trap-two named checked called key-of number-in letter pipe digit number numbered good-name name-read outcome members with-members
 table = (
   ((refl, (refl, refl)), ((refl, (refl, refl)), ((refl, (refl, refl)), ((refl, (refl, refl)), ((refl, (refl, refl)), ((refl, (refl, refl)), ((refl, (refl, refl)), ((refl, (refl, refl)), ((refl, (refl, refl)), ((refl, (refl, refl)), ((refl, (refl, refl)), ((refl, (refl, refl)), tt)))))))))))),
   desk-bench,

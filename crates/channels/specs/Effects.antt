@@ -3,9 +3,9 @@ use Prim.Native.Nat.{ℕ, _/_}
 use mathlib.Core.Bool.{Bool}
 use mathlib.Core.List.{List}
 use lib.Dec.{eqb}
-use Rattle.words.specs.Words.{word, put, clear, low-word}
-use Rattle.picture.specs.Layout.{mask-word, width, from, upto}
-use Rattle.picture.specs.Records.{slot, base}
+use Rattle.words.specs.Words.{clear, low-word}
+use Rattle.picture.specs.Layout.{width, from, upto}
+use Rattle.picture.specs.Records.{slot, base, members, with-members}
 use Rattle.picture.specs.declared.Table.{Table}
 use Rattle.picture.specs.declared.Table.the-variants.{Channels}
 use Rattle.picture.specs.declared.Area.the-variants.{Heap}
@@ -19,7 +19,7 @@ queue-of p k = base p Channels k / 4
 
 -- the entry of position k is gone: its record zero, its bit clear
 unfoldable pub forgotten : List ℕ → Table → ℕ → List ℕ
-forgotten p t k = put (clear (width t) p (slot t k)) (mask-word t) (without-bit (word p (mask-word t)) k)
+forgotten p t k = with-members (clear (width t) p (slot t k)) t (without-bit (members p t) k)
 
 -- the channel at position k is gone: "its block is freed"
 unfoldable pub closed : List ℕ → ℕ → List ℕ

@@ -46,11 +46,10 @@ pub fn forget(p: &mut [u32], t: Table, k: usize)
     requires { ⌜ k < positions t ⌝ }
     ensures { λ _. ⌜ now (p .exit) ≡ forgotten (now (p .entry)) t k ⌝ }
 {
-    let mask = picture::mask_of(t);
-    let left = masks::clear_bit(word(p, mask), k);
+    let left = masks::without_member(picture::members_of(p, t), k);
     let slot = picture::slot_of(t, k);
     words::clear(p, slot, slot + picture::width_of(t));
-    put(p, mask, left);
+    picture::put_members(p, t, left);
 }
 
 // The channel at position k is gone.

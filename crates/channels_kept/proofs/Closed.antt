@@ -12,8 +12,8 @@ use Rattle.words.specs.Words.{word}
 use Rattle.words.specs.Bits.{bit}
 use Rattle.words.specs.Each.{In}
 use Rattle.words.proofs.Tests.{both, false-true, lt-or-ge}
-use Rattle.picture.specs.Layout.{heap-base, heap-word, size-word, zero-word, last-word, mask-word, greatest-tag, positions, width, from, upto, first-record, current-word}
-use Rattle.picture.specs.Records.{slot, field, number, owner, base, ending, used, number-field, owner-field, ending-field}
+use Rattle.picture.specs.Layout.{heap-base, heap-word, size-word, zero-word, last-word, greatest-tag, positions, width, from, upto, first-record, current-word}
+use Rattle.picture.specs.Records.{slot, field, number, owner, base, ending, used, number-field, owner-field, ending-field, members}
 use Rattle.picture.specs.Numbers.{tag, position, live}
 use Rattle.picture.specs.declared.Table.{Table}
 use Rattle.picture.specs.declared.Table.the-variants.{Jobs, Channels}
@@ -21,6 +21,7 @@ use Rattle.picture.specs.declared.Area.{Area}
 use Rattle.picture.specs.declared.Area.the-variants.{Heap, Transient}
 use Rattle.picture.proofs.Records.{slot-within, used-below, used-is}
 use Rattle.picture.proofs.Numbers.{Live, live-is, is-live}
+use Rattle.picture.proofs.Members.{Spares, holds-low, spares-past, spares-size, spares-current, spares-heap, spares-last, spares-zero, spares-other, members-same, jobs-apart}
 use Rattle.blocks.specs.Header.{kind-field, kind, kind-of, queue-kind, free}
 use Rattle.blocks.specs.Walk.{starts, blocks}
 use Rattle.headers.specs.Area.{Outside}
@@ -86,23 +87,23 @@ module _ (p : List ℕ) (n : ℕ) (s : sound p ≡ true) (l : live p Channels n 
   F = forgotten-is r Channels k there whole
 
   areas : (j : ℕ) → heap-base ≤ j → word q j ≡ word r j
-  areas j h = let w = slot-within Channels k there in F .other j (inr (omega arith)) (λ e. omega arith)
+  areas j h = let w = slot-within Channels k there in F .other j (inr (omega arith)) (spares-past Channels j (omega arith))
 
-  low : (j : ℕ) → j < first-record Channels → (j ≡ mask-word Channels → ⊥) → word q j ≡ word p j
+  low : (j : ℕ) → j < first-record Channels → Spares Channels j → word q j ≡ word p j
   low j h m = F .other j (inl (omega arith)) m ∙ block-tables .words j (omega arith)
 
   pub closed-change : Change p q Heap None (Only at)
   closed-change =
-      let z = low heap-word (omega arith) (λ e. omega arith) in
+      let z = low heap-word (omega arith) (spares-heap Channels) in
       change-then p r q Heap None (Only at) (giving-back-is-a-change p Heap at (S .tiled Heap) (lies Heap)) lies
-      (from-same p q z) (upto-same p q z (low size-word (omega arith) (λ e. omega arith))) areas
+      (from-same p q z) (upto-same p q z (low size-word (omega arith) (spares-size Channels))) areas
 
   jobs-same : JobsSame p q
   jobs-same = record {
-    fields = λ j f a b. low (slot Jobs j + f) (omega arith) (λ e. omega arith);
-    mask = low (mask-word Jobs) (omega arith) (λ e. omega arith);
-    last = low (last-word Jobs) (omega arith) (λ e. omega arith);
-    current = low current-word (omega arith) (λ e. omega arith);
+    fields = λ j f a b. low (slot Jobs j + f) (omega arith) (spares-past Channels (slot Jobs j + f) (omega arith));
+    mask = members-same p q Jobs (λ j h. let l = holds-low Jobs j h in low j (omega arith) (spares-other Channels Jobs jobs-apart j h));
+    last = low (last-word Jobs) (omega arith) (spares-last Channels Jobs);
+    current = low current-word (omega arith) (spares-current Channels);
   }
 
   lives : Lives p q
@@ -110,20 +111,20 @@ module _ (p : List ℕ) (n : ℕ) (s : sound p ≡ true) (l : live p Channels n 
 
   -- the other channels
   pub field-old : (j f : ℕ) → j < positions Channels → f < width Channels → (j ≡ k → ⊥) → field q Channels j f ≡ field p Channels j f
-  field-old j f a b m = F .other (slot Channels j + f) (away (lt-or-ge j k)) (λ e. omega arith) ∙ block-tables .words (slot Channels j + f) (let w = slot-within Channels j a in omega arith)
+  field-old j f a b m = F .other (slot Channels j + f) (away (lt-or-ge j k)) (spares-past Channels (slot Channels j + f) (omega arith)) ∙ block-tables .words (slot Channels j + f) (let w = slot-within Channels j a in omega arith)
     where
       away : (j < k) ⊎ (k ≤ j) → Outside (slot Channels k) (slot Channels k + width Channels) (slot Channels j + f)
       away (inl x) = inl (omega arith)
       away (inr x) = inr (omega arith)
 
-  mask-here : word q (mask-word Channels) ≡ without-bit (word p (mask-word Channels)) k
+  mask-here : members q Channels ≡ without-bit (members p Channels) k
   mask-here = F .mask ∙ ap (λ (x : ℕ). without-bit x k) (mask-same p r block-tables Channels)
 
   pub used-gone : used q Channels k ≡ false
-  used-gone = used-is q Channels k there ∙ ap (λ (x : ℕ). bit x k) mask-here ∙ without-bit-here (word p (mask-word Channels)) k
+  used-gone = used-is q Channels k there ∙ ap (λ (x : ℕ). bit x k) mask-here ∙ without-bit-here (members p Channels) k
 
   used-other : (j : ℕ) → j < positions Channels → (j ≡ k → ⊥) → used q Channels j ≡ used p Channels j
-  used-other j a m = used-is q Channels j a ∙ ap (λ (x : ℕ). bit x j) mask-here ∙ without-bit-other (word p (mask-word Channels)) k j m ∙ sym (used-is p Channels j a)
+  used-other j a m = used-is q Channels j a ∙ ap (λ (x : ℕ). bit x j) mask-here ∙ without-bit-other (members p Channels) k j m ∙ sym (used-is p Channels j a)
 
   still-old : (j : ℕ) → used q Channels j ≡ true → (j ≡ k → ⊥) × (used p Channels j ≡ true)
   still-old j u =
@@ -134,7 +135,7 @@ module _ (p : List ℕ) (n : ℕ) (s : sound p ≡ true) (l : live p Channels n 
   unfolding claims
   entries =
       let E = S .channels .entries in
-      let w = low (last-word Channels) (omega arith) (λ e. omega arith) in
+      let w = low (last-word Channels) (omega arith) (spares-last Channels Channels) in
       let num : (j : ℕ) → used q Channels j ≡ true → number q Channels j ≡ number p Channels j = λ j u. field-old j number-field (used-below q Channels j u) (omega arith) (still-old j u .0) in
       record {
         unused = λ j f a b u. unused-now j f a b u;
@@ -227,8 +228,8 @@ module _ (p : List ℕ) (n : ℕ) (s : sound p ≡ true) (l : live p Channels n 
 
   pub closed-sound : sound (closed p (position n)) ≡ true
   closed-sound = sound-again q (record {
-    sizes = sizes-kept p q (F .long ∙ block-tables .long) (low size-word (omega arith) (λ e. omega arith)) (low heap-word (omega arith) (λ e. omega arith)) (low zero-word (omega arith) (λ e. omega arith))
-        (elim [ Jobs ↦ rw (jobs-same .last) (S .sizes .last Jobs) | Channels ↦ rw (low (last-word Channels) (omega arith) (λ e. omega arith)) (S .sizes .last Channels) ])
+    sizes = sizes-kept p q (F .long ∙ block-tables .long) (low size-word (omega arith) (spares-size Channels)) (low heap-word (omega arith) (spares-heap Channels)) (low zero-word (omega arith) (λ e. omega arith))
+        (elim [ Jobs ↦ rw (jobs-same .last) (S .sizes .last Jobs) | Channels ↦ rw (low (last-word Channels) (omega arith) (spares-last Channels Channels)) (S .sizes .last Channels) ])
         (S .sizes);
     jobs = jobs-kept p q jobs-same (S .jobs);
     channels = channels;
@@ -240,7 +241,7 @@ module _ (p : List ℕ) (n : ℕ) (s : sound p ≡ true) (l : live p Channels n 
   pub closed-ages : (t : Table) → Ages p (closed p (position n)) t
   closed-ages Jobs = jobs-age p q jobs-same
   closed-ages Channels = record {
-    rises = rw (low (last-word Channels) (omega arith) (λ e. omega arith)) (omega arith);
+    rises = rw (low (last-word Channels) (omega arith) (spares-last Channels Channels)) (omega arith);
     newer = λ m h.
         let v = live-is q Channels m h in
         let o = still-old (position m) (v .used) in

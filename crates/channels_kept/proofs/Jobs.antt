@@ -7,8 +7,8 @@ use mathlib.Core.List.{List}
 use lib.ListN.{length}
 use native.Mathlib.Omega.{arith}
 use Rattle.words.specs.Words.{word}
-use Rattle.picture.specs.Layout.{size-word, current-word, last-word, greatest-tag, heap-word, zero-word, mask-word, positions, width}
-use Rattle.picture.specs.Records.{field, waited-for, used, ready, accumulated-field, base-field, number-field, owner-field, priority-field, timeout-field, wait-field}
+use Rattle.picture.specs.Layout.{size-word, current-word, last-word, greatest-tag, heap-word, zero-word, positions, width}
+use Rattle.picture.specs.Records.{field, waited-for, used, ready, accumulated-field, base-field, number-field, owner-field, priority-field, timeout-field, wait-field, members}
 use Rattle.picture.specs.Numbers.{position, live}
 use Rattle.picture.specs.declared.Table.{Table}
 use Rattle.picture.specs.declared.Table.the-variants.{Jobs}
@@ -20,7 +20,7 @@ use Rattle.facts.proofs.Ages.{Ages, ages-same}
 
 pub record JobsSame (p q : List ℕ) : Type 0 where
   pub fields : (k f : ℕ) → k < positions Jobs → f < width Jobs → field q Jobs k f ≡ field p Jobs k f
-  pub mask : word q (mask-word Jobs) ≡ word p (mask-word Jobs)
+  pub mask : members q Jobs ≡ members p Jobs
   pub last : word q (last-word Jobs) ≡ word p (last-word Jobs)
   pub current : word q current-word ≡ word p current-word
 

@@ -10,8 +10,8 @@ use borrow.Author.Tests.{le-leb, eqb-true}
 use Rattle.words.specs.Words.{word}
 use Rattle.words.specs.Each.{In}
 use Rattle.words.proofs.Tests.{both}
-use Rattle.picture.specs.Layout.{nobody, heap-word, size-word, zero-word, current-word, mask-word, positions, width}
-use Rattle.picture.specs.Records.{field, number, priority, accumulated, timeout, waited-for, used, ready, accumulated-field, base-field, number-field, owner-field, priority-field, timeout-field, wait-field, ending-field}
+use Rattle.picture.specs.Layout.{nobody, heap-word, size-word, zero-word, current-word, positions, width}
+use Rattle.picture.specs.Records.{field, number, priority, accumulated, timeout, waited-for, used, ready, accumulated-field, base-field, number-field, owner-field, priority-field, timeout-field, wait-field, ending-field, members}
 use Rattle.picture.specs.Records as records
 use Rattle.picture.specs.Numbers.{tag, position, live}
 use Rattle.picture.specs.declared.Table.{Table}
@@ -27,6 +27,7 @@ use Rattle.matching.proofs.Counts.{Own}
 use Rattle.matching.proofs.Matched.{Matched}
 use Rattle.headers.proofs.Header.{same-or-not}
 use Rattle.picture.specs.Layout.{greatest-priority, hold, greatest-timeout}
+use Rattle.picture.proofs.Members.{spares-size, spares-current, spares-heap, spares-zero}
 use Rattle.sound.specs.Sound.{sound}
 use Rattle.facts.proofs.Sound.{Sizes, Waits, Owned, Entries, Jobs-fine, Channels-fine, Current, Sound}
 use Rattle.facts.proofs.View.{sound-again, claims-used}
@@ -108,16 +109,16 @@ module _ (p d : List ℕ) (h : sound p ≡ true) (c : Checked p d) where
       let z = S .sizes in
       let low = the.made-low p d h c in
       let long = E .long in
-      let w = low heap-word (omega arith) (λ e. omega arith) (λ e. omega arith) in
+      let w = low heap-word (omega arith) (spares-heap Jobs) (λ e. omega arith) in
       record {
-        long = low size-word (omega arith) (λ e. omega arith) (λ e. omega arith) ∙ z .long ∙ sym long;
+        long = low size-word (omega arith) (spares-size Jobs) (λ e. omega arith) ∙ z .long ∙ sym long;
         least = rw long (z .least);
         most = rw long (z .most);
         fours = rw long (z .fours);
         heap-fours = rw w (z .heap-fours);
         heap-least = rw w (z .heap-least);
         heap-most = rw (w, long) (z .heap-most);
-        nought = low zero-word (omega arith) (λ e. omega arith) (λ e. omega arith) ∙ z .nought;
+        nought = low zero-word (omega arith) (spares-zero Jobs) (λ e. omega arith) ∙ z .nought;
         last = elim [ Jobs ↦ rw (E .last) (the.tag-left p d h c) | Channels ↦ rw (other-table-last p q Jobs k (next-tag p Jobs) o (header-byte at) E there vacant Channels no-job) (z .last Channels) ];
       }
 
@@ -162,7 +163,7 @@ module _ (p d : List ℕ) (h : sound p ≡ true) (c : Checked p d) where
           inr (omega arith))
           (the.owner-nobody-or-live p d h c))
 
-  channel-mask : word q (mask-word Channels) ≡ word p (mask-word Channels)
+  channel-mask : members q Channels ≡ members p Channels
   channel-mask = other-table-mask p q Jobs k (next-tag p Jobs) o (header-byte at) E there vacant Channels no-job
 
   channel-field : (j f : ℕ) → j < positions Channels → f < width Channels → field q Channels j f ≡ field p Channels j f
@@ -188,7 +189,7 @@ module _ (p d : List ℕ) (h : sound p ≡ true) (c : Checked p d) where
 
   current : Current q
   current =
-      let w : word q current-word ≡ word p current-word = the.made-low p d h c current-word (omega arith) (λ e. omega arith) (λ e. omega arith) in
+      let w : word q current-word ≡ word p current-word = the.made-low p d h c current-word (omega arith) (spares-current Jobs) (λ e. omega arith) in
       ⊎-elim
       (λ e. inl (w ∙ e))
       (λ (e : (live p Jobs (word p current-word) ≡ true) × (ready p (position (word p current-word)) ≡ true)).

@@ -9,13 +9,14 @@ use native.Mathlib.Omega.{arith}
 use borrow.Author.Tests.{ltb-true}
 use Rattle.words.specs.Words.{word}
 use Rattle.words.specs.Each.{In}
-use Rattle.picture.specs.Layout.{nobody, heap-base, heap-word, size-word, last-word, mask-word, greatest-tag, positions, from, upto, first-job}
+use Rattle.picture.specs.Layout.{nobody, heap-base, heap-word, size-word, last-word, greatest-tag, positions, from, upto, first-job}
 use Rattle.picture.specs.Records.{used}
 use Rattle.picture.specs.Numbers.{live, free-position}
 use Rattle.picture.specs.declared.Table.{Table}
 use Rattle.picture.specs.declared.Table.the-variants.{Jobs, Channels}
 use Rattle.picture.specs.declared.Area.{Area}
 use Rattle.picture.specs.declared.Area.the-variants.{Heap, Transient}
+use Rattle.picture.proofs.Members.{Spares, spares-size, spares-heap}
 use Rattle.blocks.specs.Header.{kind-field, holder-field, start-field, kind, job-kind, free, holder, start}
 use Rattle.blocks.specs.Walk.{blocks}
 use Rattle.blocks.proofs.Starts.{starts-in}
@@ -115,13 +116,13 @@ module _ (p d : List ℕ) (h : sound p ≡ true) (c : Checked p d) where
   unfolding created
   made-areas = entering-keeps-the-areas r Jobs place (next-tag p Jobs) owner (header-byte at) place-there whole
 
-  pub made-low : (j : ℕ) → j < first-job → (j ≡ mask-word Jobs → ⊥) → (j ≡ last-word Jobs → ⊥) → word made j ≡ word p j
+  pub made-low : (j : ℕ) → j < first-job → Spares Jobs j → (j ≡ last-word Jobs → ⊥) → word made j ≡ word p j
   made-low = low-other p made Jobs place (next-tag p Jobs) owner (header-byte at) made-entry place-there place-vacant
 
   pub made-change : Change p made Transient (Only at) None
   made-change =
-      let z = made-low heap-word (omega arith) (λ e. omega arith) (λ e. omega arith) in
-      change-then p r made Transient (Only at) None block-change lies (from-same p made z) (upto-same p made z (made-low size-word (omega arith) (λ e. omega arith) (λ e. omega arith))) made-areas
+      let z = made-low heap-word (omega arith) (spares-heap Jobs) (λ e. omega arith) in
+      change-then p r made Transient (Only at) None block-change lies (from-same p made z) (upto-same p made z (made-low size-word (omega arith) (spares-size Jobs) (λ e. omega arith))) made-areas
 
   -- its block in the picture that is made
   at-behind : heap-base ≤ at

@@ -9,12 +9,14 @@ use native.Mathlib.Omega.{arith}
 use Rattle.words.specs.Words.{word, put, clear}
 use Rattle.words.specs.Bits.{bit}
 use Rattle.words.proofs.Words.{length-clear}
-use Rattle.picture.specs.Layout.{mask-word, positions, width}
-use Rattle.picture.specs.Records.{slot}
+use Rattle.picture.specs.Layout.{positions, width}
+use Rattle.picture.specs.Records.{slot, members}
 use Rattle.picture.specs.declared.Table.{Table}
+use Rattle.picture.proofs.Members.{length-with-members}
+use Rattle.masks.specs.Masks.{without}
 use Rattle.headers.proofs.Header.{length-either}
 use Rattle.emptying.specs.Each.{each}
-use Rattle.emptying.specs.Taken.{waits, woken, blanked, without, emptied}
+use Rattle.emptying.specs.Taken.{waits, woken, blanked, emptied}
 
 pub each-more : (s : List ℕ → ℕ → List ℕ) (n : ℕ) (p : List ℕ) → each s (n + 1) p ≡ s (each s n p) n
 unfolding each
@@ -35,7 +37,7 @@ length-blanked t m p k = length-either (bit m k) _ p (length p) (length-clear (w
 
 pub length-emptied : (p : List ℕ) (t : Table) (m : ℕ) → length (emptied p t m) ≡ length p
 unfolding emptied
-length-emptied p t m = simp length-set (length-each (blanked t m) (length-blanked t m) (positions t) p)
+length-emptied p t m = length-with-members (each (blanked t m) (positions t) p) t (without (members (each (blanked t m) (positions t) p) t) m) ∙ length-each (blanked t m) (length-blanked t m) (positions t) p
 
 pub back : (i w : ℕ) → i + w - i ≡ w
 back i w = omega arith

@@ -1,18 +1,17 @@
 -- Taking entries out of the tables: the jobs of a mask m, which holds the positions of a tree, and their channels.
-use Prim.Native.Nat.{ℕ, _+_, _-_}
+use Prim.Native.Nat.{ℕ}
 use mathlib.Core.Bool.{Bool, _&&_, not, cond}
 use mathlib.Core.List.{List}
 use lib.Dec.{eqb}
-use lib.Bits.{bitAnd}
-use Rattle.words.specs.Words.{word, put, clear}
+use Rattle.words.specs.Words.{clear}
 use Rattle.words.specs.Bits.{bit}
-use Rattle.picture.specs.Layout.{mask-word, positions, width}
-use Rattle.picture.specs.Records.{slot, owner, waited-for, with-timeout, with-wait, with-key, used}
+use Rattle.picture.specs.Layout.{positions, width}
+use Rattle.picture.specs.Records.{slot, members, with-members, owner, waited-for, with-timeout, with-wait, with-key, used}
 use Rattle.picture.specs.declared.Table.{Table}
 use Rattle.picture.specs.declared.Table.the-variants.{Jobs, Channels}
 use Rattle.freeing.specs.Sweep.{named}
 use Rattle.calls.specs.Writes.{with-nobody}
-use Rattle.tree.specs.Mask.{mask}
+use Rattle.masks.specs.Masks.{without, mask}
 use Rattle.emptying.specs.Each.{each}
 
 -- the job at position k is outside the tree and waits for one of it
@@ -27,13 +26,9 @@ woken m key p k = cond (waits p m k) (with-key (with-wait (with-timeout p k 0) k
 unfoldable pub blanked : Table → ℕ → List ℕ → ℕ → List ℕ
 blanked t m p k = cond (bit m k) (clear (width t) p (slot t k)) p
 
--- the bits of n that aren't in m
-abbrev pub without : ℕ → ℕ → ℕ
-without n m = bitAnd n (4294967295 - m)
-
 -- the table without the entries of the mask m
 unfoldable pub emptied : List ℕ → Table → ℕ → List ℕ
-emptied p t m = let q = each (blanked t m) (positions t) p in put q (mask-word t) (without (word q (mask-word t)) m)
+emptied p t m = let q = each (blanked t m) (positions t) p in with-members q t (without (members q t) m)
 
 -- the channel at position k is owned by a job of the tree
 unfoldable pub channel-goes : List ℕ → ℕ → ℕ → Bool

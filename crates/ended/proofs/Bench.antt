@@ -17,7 +17,7 @@ use Rattle.areas.specs.Rules.{length-whole, kind-known, start-zero, free-blank,
 use Rattle.sound.specs.Whole.{size-right, zero-right, heap-right, last-within, current-ready}
 use Rattle.sound.specs.Sound.{sound}
 use Rattle.freeing.specs.Sweep.{goes, freed, absorbed, joined, run, swept}
-use Rattle.tree.specs.Mask.{mask}
+use Rattle.masks.specs.Masks.{mask}
 use Rattle.tree.specs.Tree.{climbs, in-tree, tree}
 use Rattle.emptying.specs.Each.{each}
 use Rattle.emptying.specs.Taken.{waits, woken, blanked, emptied, channel-goes, channels-of, taken}
@@ -68,18 +68,18 @@ after =
 
 -- both pictures are sound: the laws speak of something
 before-is-sound : sound before ≡ true
-unfolding tables heap transient before sound size-right zero-right heap-right last-within current-ready zero-base priority-within accumulated-within timeout-within ends-in-one blank positioned zero-exists tag-within tags-differ tag-once owner-live owner-older zero-unowned tag-given waits-well idle-zero length-whole kind-known start-zero free-blank queue-room tiles untouched kind-fits holder-live claims pair claimed own housed used ready live starts starts-within next good
+unfolding tables heap transient before sound size-right zero-right heap-right last-within current-ready zero-base priority-within accumulated-within timeout-within ends-in-one blank positioned zero-exists tag-within tags-differ tag-once owner-live owner-older zero-unowned tag-given waits-well idle-zero length-whole kind-known start-zero free-blank queue-room tiles untouched kind-fits holder-live claims pair claimed own housed used ready live starts starts-within next good members
 before-is-sound = refl
 
 after-is-sound : sound after ≡ true
-unfolding after sound size-right zero-right heap-right last-within current-ready zero-base priority-within accumulated-within timeout-within ends-in-one blank positioned zero-exists tag-within tags-differ tag-once owner-live owner-older zero-unowned tag-given waits-well idle-zero length-whole kind-known start-zero free-blank queue-room tiles untouched kind-fits holder-live claims pair claimed own housed used ready live starts starts-within next good
+unfolding after sound size-right zero-right heap-right last-within current-ready zero-base priority-within accumulated-within timeout-within ends-in-one blank positioned zero-exists tag-within tags-differ tag-once owner-live owner-older zero-unowned tag-given waits-well idle-zero length-whole kind-known start-zero free-blank queue-room tiles untouched kind-fits holder-live claims pair claimed own housed used ready live starts starts-within next good members
 after-is-sound = refl
 
 -- the tree of job 2: positions 1, 2, 3
 the-tree : tree before 2 ≡ 14
-unfolding tables heap transient before climbs in-tree mask tree used
+unfolding tables heap transient before climbs in-tree mask tree used with-bit members
 the-tree = refl
 
 the-end : ended before 2 7 ≡ after
-unfolding tables heap transient before after climbs in-tree mask tree used channel-goes channels-of ended returned swept goes freed absorbed joined run starts starts-within next good header clear taken each woken waits emptied blanked
+unfolding tables heap transient before after climbs in-tree mask tree used channel-goes channels-of ended returned swept goes freed absorbed joined run starts starts-within next good header clear taken each woken waits emptied blanked with-bit members with-members without
 the-end = refl

@@ -13,6 +13,7 @@ use Rattle.picture.specs.Records.{used}
 use Rattle.picture.specs.declared.Table.{Table}
 use Rattle.picture.specs.declared.Table.the-variants.{Jobs, Channels}
 use Rattle.picture.proofs.Numbers.{live-is}
+use Rattle.picture.proofs.Members.{spares-last}
 use Rattle.sound.specs.Sound.{sound}
 use Rattle.facts.proofs.View.{view}
 use Rattle.facts.proofs.Ages.{Ages, ages-still}
@@ -61,8 +62,8 @@ module _ (p d : List ℕ) where
         T = ended-tables p (view p s) (asked p d) (D3 d) u z
 
         same : (t : Table) → word p (last-word t) ≤ word (ended p (asked p d) (D3 d)) (last-word t)
-        same Jobs = rw (T .head (last-word Jobs) (omega arith) (λ z. omega arith) (λ z. omega arith) (λ z. omega arith)) (omega arith)
-        same Channels = rw (T .head (last-word Channels) (omega arith) (λ z. omega arith) (λ z. omega arith) (λ z. omega arith)) (omega arith)
+        same Jobs = rw (T .head (last-word Jobs) (omega arith) (λ z. omega arith) (λ t. spares-last t Jobs)) (omega arith)
+        same Channels = rw (T .head (last-word Channels) (omega arith) (λ z. omega arith) (λ t. spares-last t Channels)) (omega arith)
 
     pub remove-ages : (t : Table) → Ages p (outcome remove p d .picture) t
     remove-ages t = of-remove p d (λ (o : Outcome). Ages p (o .picture) t) (λ k. ages-still p t) (ended-ages t)

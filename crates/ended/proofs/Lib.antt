@@ -1,5 +1,4 @@
 -- Laws of the definitions of crate ending.
-pub mod Bits
 pub mod Tables
 pub mod Taken
 pub mod Areas

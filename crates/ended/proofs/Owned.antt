@@ -1,5 +1,5 @@
 -- What the tree of a job owns in a sound picture: which entries and which blocks go with it.
-use Prim.Native.Nat.{ℕ, zero, suc, _+_, _-_, _*_, _/_, _%_, _≤_, _<_}
+use Prim.Native.Nat.{ℕ, zero, suc, _+_, _-_, _*_, _/_, _%_, _^_, _≤_, _<_}
 use mathlib.Core.Path.{_≡_, refl, sym, ap, _∙_, subst}
 use mathlib.Core.Bool.{Bool, true, false, _&&_, _||_, not, cond}
 use mathlib.Core.Logic.{⊎-elim, _⊎_, inl, inr}
@@ -18,6 +18,7 @@ use Rattle.picture.specs.declared.Table.{Table}
 use Rattle.picture.specs.declared.Table.the-variants.{Jobs, Channels}
 use Rattle.picture.specs.declared.Area.the-variants.{Heap, Transient}
 use Rattle.picture.proofs.Records.{used-below}
+use Rattle.picture.proofs.Members.{positions-within}
 use Rattle.picture.proofs.Numbers.{live-is}
 use Rattle.blocks.specs.Header.{kind, free, holder, kind-of}
 use Rattle.blocks.specs.Walk.{blocks}
@@ -28,24 +29,25 @@ use Rattle.matching.proofs.Matched.{apart-base}
 use Rattle.facts.proofs.Sound.{Sound}
 use Rattle.facts.proofs.View.{claims-used}
 use Rattle.freeing.specs.Sweep.{named, goes}
-use Rattle.tree.specs.Tree.{tree}
-use Rattle.tree.specs.Mask.{mask}
-use Rattle.tree.proofs.Mask.{mask-lt, mask-bit}
+use Rattle.tree.specs.Tree.{in-tree, tree}
+use Rattle.masks.specs.Masks.{set-width, mask}
+use Rattle.masks.proofs.Masks.{mask-fits, mask-bit}
 use Rattle.tree.proofs.Owners.{Owners, nobody-is-no-job}
 use Rattle.owners.proofs.Owners.{owners-of}
-use Rattle.tree.proofs.Members.{tree-says, tree-top, tree-child, tree-owner}
+use Rattle.tree.proofs.Members.{tree-says, tree-has, tree-top, tree-child, tree-owner}
 use Rattle.emptying.specs.Taken.{channel-goes, channels-of}
 use Rattle.ending.specs.Ended.{no-block}
+use Rattle.ended.specs.Promise.{Member}
 use Rattle.ended.proofs.Taken.{going}
 use Rattle.ended.proofs.Areas.{extra}
 
-pub tree-fits : (p : List ℕ) (t : ℕ) → tree p t < 4294967296
+pub tree-fits : (p : List ℕ) (t : ℕ) → tree p t < 2 ^ set-width
 unfolding tree
-tree-fits p t = mask-lt _ 32
+tree-fits p t = mask-fits (in-tree p t) (positions Jobs) (positions-within Jobs)
 
-pub channels-fit : (p : List ℕ) (m : ℕ) → channels-of p m < 4294967296
+pub channels-fit : (p : List ℕ) (m : ℕ) → channels-of p m < 2 ^ set-width
 unfolding channels-of
-channels-fit p m = mask-lt _ 32
+channels-fit p m = mask-fits (channel-goes p m) (positions Channels) (positions-within Channels)
 
 -- a number whose position is in the mask
 pub named-is : (m n : ℕ) → named m n ≡ true → (position n < positions Jobs) × (bit m (position n) ≡ true)
@@ -65,6 +67,13 @@ otherwise false h = refl
 module _ (p : List ℕ) (S : Sound p) (t : ℕ) where
   O : Owners p
   O = owners-of p (S .jobs)
+
+  -- whoever is named by position is a member by whole number
+  pub a-member-is-named : (n : ℕ) → Member p t n → named (tree p t) n ≡ true
+  a-member-is-named n M = let v = live-is p Jobs n (M .lives) in is-named (tree p t) n (used-below p Jobs (position n) (v .used)) (tree-has p O t (position n) (v .used) (M .under))
+
+  pub a-live-number-named-is-a-member : (n : ℕ) → live p Jobs n ≡ true → named (tree p t) n ≡ true → Member p t n
+  a-live-number-named-is-a-member n l h = let w = named-is (tree p t) n h in record { lives = l; under = tree-says p O t (position n) (w .0) (w .1) .1 }
 
   -- a job outside the tree is owned from outside it, and so is a channel that stays
   pub owner-outside : (T : Table) (k : ℕ) → used p T k ≡ true → bit (going (tree p t) (channels-of p (tree p t)) T) k ≡ false → live p Jobs (owner p T k) ≡ true → named (tree p t) (owner p T k) ≡ false

@@ -20,6 +20,7 @@ use Rattle.picture.specs.declared.Area.{Area}
 use Rattle.picture.specs.declared.Area.the-variants.{Heap, Transient}
 use Rattle.picture.proofs.Records.{used-below}
 use Rattle.picture.proofs.Numbers.{live-is, is-live}
+use Rattle.picture.proofs.Members.{spares-size, spares-heap}
 use Rattle.blocks.specs.Header.{holder-field, size, kind, free, holder, job-kind}
 use Rattle.blocks.specs.Walk.{starts, blocks}
 use Rattle.blocks.proofs.Starts.{starts-in}
@@ -34,7 +35,7 @@ use Rattle.freeing.specs.Sweep.{named, goes}
 use Rattle.freeing.proofs.Swept.{given-bytes}
 use Rattle.tree.specs.Tree.{tree}
 use Rattle.tree.specs.Under.{Under}
-use Rattle.tree.proofs.Mask.{mask-bit}
+use Rattle.masks.proofs.Masks.{mask-bit}
 use Rattle.tree.proofs.Owners.{Owners}
 use Rattle.owners.proofs.Owners.{owners-of}
 use Rattle.tree.proofs.Members.{tree-says, tree-has, tree-unowned}
@@ -43,7 +44,7 @@ use Rattle.ending.specs.Ended.{no-block, ended}
 use Rattle.ended.specs.Promise.{Member, Woken, Leaves, Takes}
 use Rattle.ended.proofs.Taken.{going, Taken}
 use Rattle.ended.proofs.Areas.{Kept, extra}
-use Rattle.ended.proofs.Owned.{named-is, is-named, not-named, otherwise, owner-outside}
+use Rattle.ended.proofs.Owned.{named-is, is-named, not-named, otherwise, owner-outside, a-member-is-named, a-live-number-named-is-a-member}
 use Rattle.ended.proofs.Sound.{not-going, ended-tables, ended-area}
 
 module _ (p : List ℕ) (S : Sound p) (t key : ℕ) (top : used p Jobs t ≡ true) (other : t ≡ 0 → ⊥) where
@@ -61,10 +62,10 @@ module _ (p : List ℕ) (S : Sound p) (t key : ℕ) (top : used p Jobs t ≡ tru
   outside k u n = otherwise (bit (tree p t) k) (λ b. n (tree-says p O t k (used-below p Jobs k u) b .1))
 
   member-named : (n : ℕ) → Member p t n → named (tree p t) n ≡ true
-  member-named n M = let v = live-is p Jobs n (M .lives) in is-named (tree p t) n (used-below p Jobs (position n) (v .used)) (tree-has p O t (position n) (v .used) (M .under))
+  member-named = a-member-is-named p S t
 
   named-member : (n : ℕ) → live p Jobs n ≡ true → named (tree p t) n ≡ true → Member p t n
-  named-member n l h = let w = named-is (tree p t) n h in record { lives = l; under = tree-says p O t (position n) (w .0) (w .1) .1 }
+  named-member = a-live-number-named-is-a-member p S t
 
   -- a channel's bit
   channel-bit : (k : ℕ) → used p Channels k ≡ true → bit (channels-of p (tree p t)) k ≡ named (tree p t) (owner p Channels k)
@@ -129,11 +130,11 @@ module _ (p : List ℕ) (S : Sound p) (t key : ℕ) (top : used p Jobs t ≡ tru
 
   same-from : (r : Area) → from (ended p t key) r ≡ from p r
   same-from Heap = refl
-  same-from Transient = rw (T .head heap-word (omega arith) (λ z. omega arith) (λ z. omega arith) (λ z. omega arith))
+  same-from Transient = rw (T .head heap-word (omega arith) (λ z. omega arith) (λ t. spares-heap t))
 
   same-upto : (r : Area) → upto (ended p t key) r ≡ upto p r
-  same-upto Heap = rw (T .head heap-word (omega arith) (λ z. omega arith) (λ z. omega arith) (λ z. omega arith))
-  same-upto Transient = T .head size-word (omega arith) (λ z. omega arith) (λ z. omega arith) (λ z. omega arith)
+  same-upto Heap = rw (T .head heap-word (omega arith) (λ z. omega arith) (λ t. spares-heap t))
+  same-upto Transient = T .head size-word (omega arith) (λ z. omega arith) (λ t. spares-size t)
 
   -- a field of a job outside the tree that waits for none of it
   job-field : (k f : ℕ) → used p Jobs k ≡ true → bit (tree p t) k ≡ false → waits p (tree p t) k ≡ false → f < width Jobs → field (ended p t key) Jobs k f ≡ field p Jobs k f

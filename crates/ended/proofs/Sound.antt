@@ -12,7 +12,7 @@ use Rattle.words.specs.Words.{word}
 use Rattle.words.specs.Bits.{bit}
 use Rattle.words.specs.Each.{In}
 use Rattle.words.proofs.Tests.{both, false-true, lt-or-ge}
-use Rattle.picture.specs.Layout.{nobody, size-word, current-word, last-word, heap-word, zero-word, heap-base, mask-word, positions, width, first-record, from, upto}
+use Rattle.picture.specs.Layout.{nobody, size-word, current-word, last-word, heap-word, zero-word, heap-base, positions, width, first-record, from, upto}
 use Rattle.picture.specs.Records.{field, number-field, owner-field, base-field, priority-field, accumulated-field, timeout-field, wait-field, key-field, ending-field, number, owner, base, priority, accumulated, timeout, waited-for, ending, used, ready}
 use Rattle.picture.specs.Numbers.{tag, position, live}
 use Rattle.picture.specs.declared.Table.{Table}
@@ -30,6 +30,7 @@ use Rattle.matching.proofs.Counts.{Own}
 use Rattle.matching.proofs.Matched.{Matched}
 use Rattle.records.specs.Rules.{may-be-unowned}
 use Rattle.picture.specs.Layout.{greatest-priority, hold, greatest-timeout}
+use Rattle.picture.proofs.Members.{spares-size, spares-heap, spares-zero, spares-last}
 use Rattle.sound.specs.Sound.{sound}
 use Rattle.facts.proofs.Sound.{Sizes, Queue, Waits, Owned, Entries, Jobs-fine, Channels-fine, Fits, Tiled, Current, Sound}
 use Rattle.facts.proofs.View.{claims-used, view, sound-again}
@@ -106,30 +107,30 @@ module _ (p : List ℕ) (S : Sound p) (t key : ℕ) (top : used p Jobs t ≡ tru
   -- the areas stand where they did
   same-from : (r : Area) → from q r ≡ from p r
   same-from Heap = refl
-  same-from Transient = rw (T .head heap-word (omega arith) (λ z. omega arith) (λ z. omega arith) (λ z. omega arith))
+  same-from Transient = rw (T .head heap-word (omega arith) (λ z. omega arith) (λ t. spares-heap t))
 
   same-upto : (r : Area) → upto q r ≡ upto p r
-  same-upto Heap = rw (T .head heap-word (omega arith) (λ z. omega arith) (λ z. omega arith) (λ z. omega arith))
-  same-upto Transient = T .head size-word (omega arith) (λ z. omega arith) (λ z. omega arith) (λ z. omega arith)
+  same-upto Heap = rw (T .head heap-word (omega arith) (λ z. omega arith) (λ t. spares-heap t))
+  same-upto Transient = T .head size-word (omega arith) (λ z. omega arith) (λ t. spares-size t)
 
   same-last : (t′ : Table) → word q (last-word t′) ≡ word p (last-word t′)
-  same-last Jobs = T .head (last-word Jobs) (omega arith) (λ z. omega arith) (λ z. omega arith) (λ z. omega arith)
-  same-last Channels = T .head (last-word Channels) (omega arith) (λ z. omega arith) (λ z. omega arith) (λ z. omega arith)
+  same-last Jobs = T .head (last-word Jobs) (omega arith) (λ z. omega arith) (λ t. spares-last t Jobs)
+  same-last Channels = T .head (last-word Channels) (omega arith) (λ z. omega arith) (λ t. spares-last t Channels)
 
   sizes-kept : Sizes q
   sizes-kept =
       let z = S .sizes in
       let l = T .long in
-      let h = T .head heap-word (omega arith) (λ z. omega arith) (λ z. omega arith) (λ z. omega arith) in
+      let h = T .head heap-word (omega arith) (λ z. omega arith) (λ t. spares-heap t) in
       record {
-        long = T .head size-word (omega arith) (λ z. omega arith) (λ z. omega arith) (λ z. omega arith) ∙ z .long ∙ sym l;
+        long = T .head size-word (omega arith) (λ z. omega arith) (λ t. spares-size t) ∙ z .long ∙ sym l;
         least = rw l (z .least);
         most = rw l (z .most);
         fours = rw l (z .fours);
         heap-fours = rw h (z .heap-fours);
         heap-least = rw h (z .heap-least);
         heap-most = rw (h, l) (z .heap-most);
-        nought = T .head zero-word (omega arith) (λ z. omega arith) (λ z. omega arith) (λ z. omega arith) ∙ z .nought;
+        nought = T .head zero-word (omega arith) (λ z. omega arith) (λ t. spares-zero t) ∙ z .nought;
         last = elim [ Jobs ↦ rw (same-last Jobs) (z .last Jobs) | Channels ↦ rw (same-last Channels) (z .last Channels) ];
       }
 

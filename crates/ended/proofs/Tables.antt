@@ -1,5 +1,5 @@
 -- A table without the entries of a mask, and the jobs that are woken, longword by longword.
-use Prim.Native.Nat.{ℕ, zero, suc, _+_, _-_, _*_, _≤_, _<_}
+use Prim.Native.Nat.{ℕ, zero, suc, _+_, _-_, _*_, _≤_, _<_, _^_}
 use mathlib.Core.Path.{_≡_, refl, sym, ap, _∙_, subst}
 use mathlib.Core.Bool.{Bool, true, false, _&&_, not, cond}
 use mathlib.Core.Logic.{⊎-elim, _⊎_, inl, inr}
@@ -12,18 +12,20 @@ use native.Mathlib.Nat.{eq-or-lt-of-le, le-of-suc-le-suc, not-suc-le-zero}
 use Rattle.words.specs.Words.{word, put, clear}
 use Rattle.words.specs.Bits.{bit}
 use Rattle.words.proofs.Tests.{lt-or-ge}
-use Rattle.picture.specs.Layout.{mask-word, positions, width, first-record, heap-base}
-use Rattle.picture.specs.Records.{slot, timeout, waited-for, delivered, used, key-field, timeout-field, wait-field, with-key, with-timeout, with-wait}
+use Rattle.picture.specs.Layout.{first-job, positions, width, first-record, heap-base}
+use Rattle.picture.specs.Records.{slot, timeout, waited-for, delivered, used, key-field, timeout-field, wait-field, with-key, with-timeout, with-wait, members}
 use Rattle.picture.specs.declared.Table.{Table}
 use Rattle.picture.specs.declared.Table.the-variants.{Jobs, Channels}
-use Rattle.picture.proofs.Records.{slot-within, used-is, used-past, positions-same}
+use Rattle.picture.proofs.Records.{slot-within, used-is, used-past}
+use Rattle.picture.proofs.Members.{Spares, holds-low, spares-past, positions-within, members-same, with-members-other, members-with}
+use Rattle.masks.specs.Masks.{set-width, without}
+use Rattle.masks.proofs.Masks.{without-at}
 use Rattle.headers.specs.Area.{Outside}
 use Rattle.headers.proofs.Clear.{clear-other, clear-zeros}
 use Rattle.freeing.specs.Sweep.{named}
 use Rattle.emptying.specs.Each.{each}
-use Rattle.emptying.specs.Taken.{waits, woken, blanked, without, emptied}
+use Rattle.emptying.specs.Taken.{waits, woken, blanked, emptied}
 use Rattle.emptying.proofs.Steps.{length-each, length-woken, length-blanked, length-emptied}
-use Rattle.ended.proofs.Bits.{without-bit}
 
 -- a longword that no step touches
 pub each-other : (s : List ℕ → ℕ → List ℕ) (n : ℕ) (p : List ℕ) (x : ℕ) → ((q : List ℕ) (k : ℕ) → k < n → word (s q k) x ≡ word q x) → word (each s n p) x ≡ word p x
@@ -55,17 +57,10 @@ beside-other : (t : Table) (j k f : ℕ) → (k ≡ j → ⊥) → f < width t �
 beside-other Jobs j k f n l = ⊎-elim (λ (h : j < k). inl (omega arith)) (λ (h : k ≤ j). inr (omega arith)) (lt-or-ge j k)
 beside-other Channels j k f n l = ⊎-elim (λ (h : j < k). inl (omega arith)) (λ (h : k ≤ j). inr (omega arith)) (lt-or-ge j k)
 
-mask-beside : (t : Table) → mask-word t < first-record t
-mask-beside Jobs = omega arith
-mask-beside Channels = omega arith
-
-mask-within : (t : Table) → mask-word t < heap-base
-mask-within Jobs = omega arith
-mask-within Channels = omega arith
-
-record-not-mask : (t : Table) (k f : ℕ) → slot t k + f ≡ mask-word t → ⊥
-record-not-mask Jobs k f e = omega arith
-record-not-mask Channels k f e = omega arith
+-- the records stand behind the longwords before the tables
+records-behind : (t : Table) → first-job ≤ first-record t
+records-behind Jobs = omega arith
+records-behind Channels = omega arith
 
 -- one record
 blanked-other : (t : Table) (m : ℕ) (p : List ℕ) (k x : ℕ) → Outside (slot t k) (slot t k + width t) x → word (blanked t m p k) x ≡ word p x
@@ -86,32 +81,34 @@ blanked-at t m p k f long l h = go (bit m k)
 
 -- a table without the entries of m
 module _ (p : List ℕ) (t : Table) (m : ℕ) where
-  pub emptied-other : (x : ℕ) → Beside t x → (x ≡ mask-word t → ⊥) → word (emptied p t m) x ≡ word p x
+  pub emptied-other : (x : ℕ) → Beside t x → Spares t x → word (emptied p t m) x ≡ word p x
   unfolding emptied
   emptied-other x b n =
-      getD-set-other (each (blanked t m) (positions t) p) (mask-word t) x (without (word (each (blanked t m) (positions t) p) (mask-word t)) m) 0 n
+      with-members-other (each (blanked t m) (positions t) p) t (without (members (each (blanked t m) (positions t) p) t) m) x n
       ∙ each-other (blanked t m) (positions t) p x (λ q k l. blanked-other t m q k x (beside-record t k x l b))
 
   module _ (long : heap-base ≤ length p) where
     pub emptied-record : (k f : ℕ) → k < positions t → f < width t → word (emptied p t m) (slot t k + f) ≡ cond (bit m k) 0 (word p (slot t k + f))
     unfolding emptied
     emptied-record k f l h =
-        getD-set-other (each (blanked t m) (positions t) p) (mask-word t) (slot t k + f) (without (word (each (blanked t m) (positions t) p) (mask-word t)) m) 0 (record-not-mask t k f)
+        with-members-other (each (blanked t m) (positions t) p) t (without (members (each (blanked t m) (positions t) p) t) m) (slot t k + f) (let b = records-behind t in spares-past t (slot t k + f) (omega arith))
         ∙ each-at (blanked t m) (positions t) k p (slot t k + f) l (λ q j i n. blanked-other t m q j (slot t k + f) (beside-other t k j f n h))
         ∙ blanked-at t m (each (blanked t m) k p) k f (rw (length-each (blanked t m) (length-blanked t m) k p) long) l h
         ∙ ap (cond (bit m k) 0) (each-other (blanked t m) k p (slot t k + f) (λ q j i. blanked-other t m q j (slot t k + f) (beside-other t k j f (λ z. omega arith) h)))
 
-    pub emptied-mask : word (emptied p t m) (mask-word t) ≡ without (word p (mask-word t)) m
+    pub emptied-mask : members (emptied p t m) t ≡ without (members p t) m
     unfolding emptied
     emptied-mask =
-        let w = mask-within t in
-        getD-set-same (each (blanked t m) (positions t) p) (mask-word t) (without (word (each (blanked t m) (positions t) p) (mask-word t)) m) 0 (rw (length-each (blanked t m) (length-blanked t m) (positions t) p) (omega arith))
-        ∙ ap (λ (x : ℕ). without x m) (each-other (blanked t m) (positions t) p (mask-word t) (λ q k l. blanked-other t m q k (mask-word t) (beside-record t k (mask-word t) l (inl (mask-beside t)))))
+        members-with (each (blanked t m) (positions t) p) t (without (members (each (blanked t m) (positions t) p) t) m) (rw (length-each (blanked t m) (length-blanked t m) (positions t) p) (omega arith))
+        ∙ ap (λ (x : ℕ). without x m) (members-same p (each (blanked t m) (positions t) p) t (λ j h.
+        let a = holds-low t j h in
+        let b = records-behind t in
+        each-other (blanked t m) (positions t) p j (λ q k l. blanked-other t m q k j (beside-record t k j l (inl (omega arith))))))
 
 -- the positions in use of a picture whose mask is without that of m
-module _ (p q : List ℕ) (t : Table) (m : ℕ) (fits : m < 4294967296) (h : word q (mask-word t) ≡ without (word p (mask-word t)) m) where
-  used-bit : (k : ℕ) → k < positions t → used q t k ≡ not (bit m k) && bit (word p (mask-word t)) k
-  used-bit k l = used-is q t k l ∙ rw h (without-bit (word p (mask-word t)) m k (subst (λ (n : ℕ). k < n) (positions-same t) l) fits)
+module _ (p q : List ℕ) (t : Table) (m : ℕ) (fits : m < 2 ^ set-width) (h : members q t ≡ without (members p t) m) where
+  used-bit : (k : ℕ) → k < positions t → used q t k ≡ not (bit m k) && bit (members p t) k
+  used-bit k l = used-is q t k l ∙ rw h (without-at (members p t) m k (let w = positions-within t in omega arith) fits)
 
   pub out-of-use : (k : ℕ) → bit m k ≡ true → used q t k ≡ false
   out-of-use k b = ⊎-elim (λ (l : k < positions t). used-bit k l ∙ rw b) (λ (l : positions t ≤ k). used-past q t k l) (lt-or-ge k (positions t))
@@ -169,7 +166,7 @@ pub waits-same : (p q : List ℕ) (m k : ℕ) → used q Jobs k ≡ used p Jobs 
 unfolding waits
 waits-same p q m k u w = rw (u, w)
 
-used-with : (p q : List ℕ) (k : ℕ) → word q (mask-word Jobs) ≡ word p (mask-word Jobs) → used q Jobs k ≡ used p Jobs k
+used-with : (p q : List ℕ) (k : ℕ) → members q Jobs ≡ members p Jobs → used q Jobs k ≡ used p Jobs k
 unfolding used
 used-with p q k h = rw h
 
@@ -194,7 +191,7 @@ module _ (m key : ℕ) (p : List ℕ) where
     waited : waits so-far m k ≡ waits p m k
     unfolding so-far
     waited = waits-same p so-far m k
-        (used-with p so-far k (each-other (woken m key) k p (mask-word Jobs) (λ q j i. woken-other m key q j (mask-word Jobs) (λ g a b z. omega arith))))
+        (used-with p so-far k (members-same p so-far Jobs (λ x h. let l = holds-low Jobs x h in each-other (woken m key) k p x (λ q j i. woken-other m key q j x (λ g a b z. omega arith)))))
         (before wait-field (omega arith))
 
     turn : (f : ℕ) → f < width Jobs → word (each (woken m key) (positions Jobs) p) (slot Jobs k + f) ≡ word (woken m key so-far k) (slot Jobs k + f)

@@ -1,5 +1,5 @@
 -- The tables after the jobs of a mask m and the channels of a mask c were taken out.
-use Prim.Native.Nat.{ℕ, zero, suc, _+_, _-_, _*_, _≤_, _<_}
+use Prim.Native.Nat.{ℕ, zero, suc, _+_, _-_, _*_, _≤_, _<_, _^_}
 use mathlib.Core.Path.{_≡_, refl, sym, ap, _∙_, subst}
 use mathlib.Core.Bool.{Bool, true, false, _&&_, not, cond}
 use mathlib.Core.Logic.{⊎-elim, _⊎_, inl, inr}
@@ -9,15 +9,17 @@ use lib.Seq.{getD-set-same, getD-set-other}
 use native.Mathlib.Omega.{arith}
 use Rattle.words.specs.Words.{word, put}
 use Rattle.words.specs.Bits.{bit}
-use Rattle.picture.specs.Layout.{nobody, current-word, mask-word, positions, width, first-record, heap-base}
-use Rattle.picture.specs.Records.{slot, field, base-field, priority-field, accumulated-field, timeout-field, wait-field, key-field, priority, accumulated, timeout, waited-for, delivered, used}
+use Rattle.picture.specs.Layout.{nobody, current-word, positions, width, first-record, heap-base}
+use Rattle.picture.specs.Records.{slot, field, base-field, priority-field, accumulated-field, timeout-field, wait-field, key-field, priority, accumulated, timeout, waited-for, delivered, used, members}
 use Rattle.picture.specs.declared.Table.{Table}
 use Rattle.picture.specs.declared.Table.the-variants.{Jobs, Channels}
 use Rattle.picture.proofs.Records.{slot-within, shared}
+use Rattle.picture.proofs.Members.{Holds, Spares, holds-low, spares-past, spares-current, spares-other, members-same, jobs-apart, channels-apart}
+use Rattle.masks.specs.Masks.{set-width, without}
 use Rattle.facts.proofs.Same.{used-same}
 use Rattle.calls.specs.Writes.{with-nobody}
 use Rattle.emptying.specs.Each.{each}
-use Rattle.emptying.specs.Taken.{waits, woken, without, emptied, taken}
+use Rattle.emptying.specs.Taken.{waits, woken, emptied, taken}
 use Rattle.emptying.proofs.Steps.{length-each, length-woken, length-emptied}
 use Rattle.ended.proofs.Tables.{Beside, emptied-other, emptied-record, emptied-mask, out-of-use, in-use, waits-same, wakes-other, wakes-timeout, wakes-wait, wakes-key}
 
@@ -30,7 +32,7 @@ going m c Channels = c
 pub record Taken (p q : List ℕ) (m c key : ℕ) : Type 0 where
   pub long : length q ≡ length p
   pub current : word q current-word ≡ nobody
-  pub head : (x : ℕ) → x < first-record Jobs → (x ≡ current-word → ⊥) → (x ≡ mask-word Jobs → ⊥) → (x ≡ mask-word Channels → ⊥) → word q x ≡ word p x
+  pub head : (x : ℕ) → x < first-record Jobs → (x ≡ current-word → ⊥) → ((t : Table) → Spares t x) → word q x ≡ word p x
   pub dies : (t : Table) (k : ℕ) → bit (going m c t) k ≡ true → used q t k ≡ false
   pub stays : (t : Table) (k : ℕ) → bit (going m c t) k ≡ false → used q t k ≡ used p t k
   pub blank : (t : Table) (k f : ℕ) → k < positions t → f < width t → bit (going m c t) k ≡ true → field q t k f ≡ 0
@@ -41,7 +43,7 @@ pub record Taken (p q : List ℕ) (m c key : ℕ) : Type 0 where
   pub wait : (k : ℕ) → k < positions Jobs → bit m k ≡ false → waited-for q k ≡ cond (waits p m k) 0 (waited-for p k)
   pub gets : (k : ℕ) → k < positions Jobs → bit m k ≡ false → delivered q k ≡ cond (waits p m k) key (delivered p k)
 
-module _ (p : List ℕ) (m c key : ℕ) (long : heap-base ≤ length p) (mf : m < 4294967296) (cf : c < 4294967296) where
+module _ (p : List ℕ) (m c key : ℕ) (long : heap-base ≤ length p) (mf : m < 2 ^ set-width) (cf : c < 2 ^ set-width) where
   w : List ℕ
   w = each (woken m key) (positions Jobs) p
 
@@ -79,7 +81,7 @@ module _ (p : List ℕ) (m c key : ℕ) (long : heap-base ≤ length p) (mf : m 
   unfolding j
   job-field k f l h =
       past-current (slot Jobs k + f) (λ z. omega arith)
-      ∙ emptied-other j Channels c (slot Jobs k + f) (inl (omega arith)) (λ z. omega arith)
+      ∙ emptied-other j Channels c (slot Jobs k + f) (inl (omega arith)) (spares-past Channels (slot Jobs k + f) (omega arith))
       ∙ emptied-record w Jobs m w-long k f l h
 
   -- those that waking leaves
@@ -92,26 +94,33 @@ module _ (p : List ℕ) (m c key : ℕ) (long : heap-base ≤ length p) (mf : m 
   channel-field k f l h =
       past-current (slot Channels k + f) (λ z. omega arith)
       ∙ emptied-record j Channels c j-long k f l h
-      ∙ ap (cond (bit c k) 0) (emptied-other w Jobs m (slot Channels k + f) (inr (omega arith)) (λ z. omega arith) ∙ wakes-other m key p (slot Channels k + f) (λ i o g a b z. omega arith))
+      ∙ ap (cond (bit c k) 0) (emptied-other w Jobs m (slot Channels k + f) (inr (omega arith)) (spares-past Jobs (slot Channels k + f) (omega arith)) ∙ wakes-other m key p (slot Channels k + f) (λ i o g a b z. omega arith))
 
   low : (x : ℕ) → x < first-record Jobs → word w x ≡ word p x
   unfolding w
   low x l = wakes-other m key p x (λ i o g a b z. omega arith)
 
-  job-mask : word q (mask-word Jobs) ≡ without (word p (mask-word Jobs)) m
+  -- nobody is written at no table's set
+  behind-current : (t : Table) → members q t ≡ members (emptied j Channels c) t
+  behind-current t = members-same (emptied j Channels c) q t (λ x h. past-current x (λ e. spares-current t (subst (Holds t) e h)))
+
+  low-members : (t : Table) → members w t ≡ members p t
+  low-members t = members-same p w t (λ x h. low x (holds-low t x h))
+
+  job-mask : members q Jobs ≡ without (members p Jobs) m
   unfolding j
   job-mask =
-      past-current (mask-word Jobs) (λ z. omega arith)
-      ∙ emptied-other j Channels c (mask-word Jobs) (inl (omega arith)) (λ z. omega arith)
+      behind-current Jobs
+      ∙ members-same j (emptied j Channels c) Jobs (λ x h. let l = holds-low Jobs x h in emptied-other j Channels c x (inl (omega arith)) (spares-other Channels Jobs jobs-apart x h))
       ∙ emptied-mask w Jobs m w-long
-      ∙ ap (λ (x : ℕ). without x m) (low (mask-word Jobs) (omega arith))
+      ∙ ap (λ (x : ℕ). without x m) (low-members Jobs)
 
-  channel-mask : word q (mask-word Channels) ≡ without (word p (mask-word Channels)) c
+  channel-mask : members q Channels ≡ without (members p Channels) c
   unfolding j
   channel-mask =
-      past-current (mask-word Channels) (λ z. omega arith)
+      behind-current Channels
       ∙ emptied-mask j Channels c j-long
-      ∙ ap (λ (x : ℕ). without x c) (emptied-other w Jobs m (mask-word Channels) (inl (omega arith)) (λ z. omega arith) ∙ low (mask-word Channels) (omega arith))
+      ∙ ap (λ (x : ℕ). without x c) (members-same w j Channels (λ x h. emptied-other w Jobs m x (inl (holds-low Channels x h)) (spares-other Jobs Channels channels-apart x h)) ∙ low-members Channels)
 
   dies-by : (t : Table) (k : ℕ) → bit (going m c t) k ≡ true → used q t k ≡ false
   dies-by Jobs k b = out-of-use p q Jobs m mf job-mask k b
@@ -135,7 +144,7 @@ module _ (p : List ℕ) (m c key : ℕ) (long : heap-base ≤ length p) (mf : m 
   same-by Jobs k f l h b = same-job-by k f l (omega arith) (λ e. omega arith) (λ e. omega arith) (λ e. omega arith) b
   same-by Channels k f l h b = same-channel-by k f l (omega arith) b
 
-  jw : (x : ℕ) → x < first-record Jobs → (x ≡ mask-word Jobs → ⊥) → word j x ≡ word w x
+  jw : (x : ℕ) → x < first-record Jobs → Spares Jobs x → word j x ≡ word w x
   unfolding j
   jw x l o = emptied-other w Jobs m x (inl l) o
 
@@ -144,7 +153,7 @@ module _ (p : List ℕ) (m c key : ℕ) (long : heap-base ≤ length p) (mf : m 
   is-taken = record {
     long = long-q;
     current = getD-set-same (emptied j Channels c) current-word nobody 0 (rw (length-emptied j Channels c, long-j) (omega arith));
-    head = λ x l n o r. past-current x n ∙ emptied-other j Channels c x (inl (omega arith)) r ∙ jw x l o ∙ low x l;
+    head = λ x l n o. past-current x n ∙ emptied-other j Channels c x (inl (omega arith)) (o Channels) ∙ jw x l (o Jobs) ∙ low x l;
     dies = dies-by;
     stays = stays-by;
     blank = blank-by;
@@ -161,8 +170,8 @@ module _ (p : List ℕ) (m c key : ℕ) (long : heap-base ≤ length p) (mf : m 
   unfolding j w
   q-above x l =
       past-current x (λ z. omega arith)
-      ∙ emptied-other j Channels c x (inr (omega arith)) (λ z. omega arith)
-      ∙ emptied-other w Jobs m x (inr (omega arith)) (λ z. omega arith)
+      ∙ emptied-other j Channels c x (inr (omega arith)) (spares-past Channels x (omega arith))
+      ∙ emptied-other w Jobs m x (inr (omega arith)) (spares-past Jobs x (omega arith))
       ∙ wakes-other m key p x (λ i o g a b z. omega arith)
 
   pub taken-tables : Taken p (taken p m c key) m c key
@@ -185,7 +194,7 @@ pub taken-from : (p y q : List ℕ) (m c key : ℕ) → length y ≡ length p �
 taken-from p y q m c key long low T = record {
   long = T .long ∙ long;
   current = T .current;
-  head = λ x l n o r. T .head x l n o r ∙ low x (omega arith);
+  head = λ x l n o. T .head x l n o ∙ low x (omega arith);
   dies = T .dies;
   stays = λ t k b. T .stays t k b ∙ uses t k;
   blank = T .blank;
@@ -201,8 +210,7 @@ taken-from p y q m c key long low T = record {
     fields t k f l h = let w = slot-within t k l in low (slot t k + f) (omega arith)
 
     uses : (t : Table) (k : ℕ) → used y t k ≡ used p t k
-    uses Jobs k = used-same p y Jobs (low (mask-word Jobs) (omega arith)) k
-    uses Channels k = used-same p y Channels (low (mask-word Channels) (omega arith)) k
+    uses t k = used-same p y t (members-same p y t (λ x h. let l = holds-low t x h in low x (omega arith))) k
 
     waited : (k : ℕ) → k < positions Jobs → waits y m k ≡ waits p m k
     waited k l = waits-same p y m k (uses Jobs k) (fields Jobs k wait-field l (omega arith))

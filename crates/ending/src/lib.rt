@@ -11,7 +11,6 @@ use picture::field_of;
 use picture::job_at;
 use tree::tree_of;
 use words::clear;
-use words::is_set;
 use words::word;
 ghost use mathlib.Core.Path.{_≡_};
 ghost use mathlib.Core.Bool.{true};
@@ -29,11 +28,11 @@ ghost use Rattle.ending.specs.Remove.{inactive, remove, force-remove as 
 const NO_BLOCK: usize = 0;
 
 // No member of the mask is active.
-pub fn is_inactive(p: &[u32], mask: u32) -> bool
+pub fn is_inactive(p: &[u32], mask: u64) -> bool
     ensures { λ r. ⌜ r ≡ inactive (now (p .entry)) mask ⌝ }
 {
     for k in 0..JOBS {
-        if is_set(mask, k) & picture::is_active(p, k) {
+        if masks::is_member(mask, k) & picture::is_active(p, k) {
             return false;
         }
     }
@@ -41,7 +40,7 @@ pub fn is_inactive(p: &[u32], mask: u32) -> bool
 }
 
 // The blocks of the jobs of the mask are given back, and the job block at `block`.
-pub fn return_blocks(p: &mut [u32], mask: u32, block: usize)
+pub fn return_blocks(p: &mut [u32], mask: u64, block: usize)
     requires { ⌜ (upto (now p) Heap ≤ greatestSize) × (upto (now p) Transient ≤ greatestSize) ⌝ }
     ensures { λ _. ⌜ now (p .exit) ≡ returned (now (p .entry)) mask block ⌝ }
 {

@@ -4,8 +4,8 @@ use mathlib.Core.Bool.{Bool}
 use mathlib.Core.List.{List}
 use lib.Dec.{ltb}
 use Rattle.words.specs.Words.{word, put, clear}
-use Rattle.picture.specs.Layout.{positions, width, mask-word, last-word, greatest-tag}
-use Rattle.picture.specs.Records.{slot, with-number, with-owner, with-base}
+use Rattle.picture.specs.Layout.{positions, width, last-word, greatest-tag}
+use Rattle.picture.specs.Records.{slot, members, with-members, with-number, with-owner, with-base}
 use Rattle.picture.specs.Numbers.{number-of, free-position}
 use Rattle.picture.specs.declared.Table.{Table}
 use Rattle.masks.specs.Masks.{with-bit}
@@ -30,7 +30,7 @@ recorded p t k n o b = with-base (with-owner (with-number (clear (width t) p (sl
 
 -- position k is in use, and g is the last tag given
 unfoldable pub counted : List ℕ → Table → ℕ → ℕ → List ℕ
-counted p t k g = put (put p (mask-word t) (with-bit (word p (mask-word t)) k)) (last-word t) g
+counted p t k g = put (with-members p t (with-bit (members p t) k)) (last-word t) g
 
 -- the entry with tag g at position k, of owner o and base b
 unfoldable pub entered : List ℕ → Table → ℕ → ℕ → ℕ → ℕ → List ℕ

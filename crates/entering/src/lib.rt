@@ -22,8 +22,8 @@ pub fn count_entry(p: &mut [u32], t: Table, k: usize, tag: u32)
     requires { ⌜ k < positions t ⌝ }
     ensures { λ _. ⌜ now (p .exit) ≡ counted (now (p .entry)) t k tag ⌝ }
 {
-    let mask = picture::mask_of(t);
-    words::put(p, mask, masks::set_bit(words::word(p, mask), k));
+    let set = picture::members_of(p, t);
+    picture::put_members(p, t, masks::with_member(set, k));
     words::put(p, picture::last_of(t), tag);
 }
 

@@ -8,15 +8,16 @@ use lib.Dec.{leb}
 use native.Mathlib.Omega.{arith}
 use Rattle.words.specs.Words.{word}
 use Rattle.words.specs.Bits.{bit}
-use Rattle.words.proofs.Bits.{Lowest, lowest-clear-is}
+use Rattle.masks.proofs.Lowest.{Lowest, lowest-clear-is}
 use Rattle.words.proofs.Tests.{both, false-true, lt-or-ge}
-use Rattle.picture.specs.Layout.{positions, width, mask-word, last-word, greatest-tag, first-job}
-use Rattle.picture.specs.Records.{slot, field, number, owner, used, number-field, owner-field}
+use Rattle.picture.specs.Layout.{positions, width, last-word, greatest-tag, first-job}
+use Rattle.picture.specs.Records.{slot, field, number, owner, used, number-field, owner-field, members}
 use Rattle.picture.specs.Numbers.{tag-weight, tag, position, number-of, live, free-position}
 use Rattle.picture.specs.declared.Table.{Table}
 use Rattle.picture.specs.declared.Table.the-variants.{Jobs, Channels}
 use Rattle.picture.proofs.Records.{slot-within, positions-named, used-below, used-is}
 use Rattle.picture.proofs.Numbers.{Live, live-is, is-live}
+use Rattle.picture.proofs.Members.{Holds, Spares, holds-low, spares-past, spares-last, spares-other, members-same}
 use Rattle.headers.specs.Area.{Outside}
 use Rattle.headers.proofs.Header.{same-or-not}
 use Rattle.masks.proofs.Masks.{with-bit-here, with-bit-other}
@@ -31,7 +32,7 @@ use Rattle.entering_kept.proofs.Written.{Entered, Places, places}
 -- the free position of a table is not in use
 pub free-position-is-free : (p : List ℕ) (t : Table) → free-position p t < positions t → used p t (free-position p t) ≡ false
 unfolding free-position
-free-position-is-free p t l = used-is p t _ l ∙ lowest-clear-is (positions t) (word p (mask-word t)) .free l
+free-position-is-free p t l = used-is p t _ l ∙ lowest-clear-is (positions t) (members p t) .free l
 
 -- the number of a tag and a position
 pub number-position : (g k : ℕ) → k < tag-weight → position (number-of g k) ≡ k
@@ -54,18 +55,12 @@ away Jobs Channels j k f l m n x = inr (omega arith)
 away Channels Jobs j k f l m n x = inl (omega arith)
 away Channels Channels j k f l m n x = ⊎-elim (λ (a : j < k). inl (omega arith)) (λ (a : k ≤ j). ⊎-elim (λ (c : k < j). inr (omega arith)) (λ (c : j ≤ k). absurd (x (refl, omega arith))) (lt-or-ge k j)) (lt-or-ge j k)
 
--- masks and last tags of two tables
-other-mask : (t u : Table) → (u ≡ t → ⊥) → (mask-word u ≡ mask-word t → ⊥) × (mask-word u ≡ last-word t → ⊥)
-other-mask Jobs Jobs n = absurd (n refl)
-other-mask Jobs Channels n = (λ e. omega arith, λ e. omega arith)
-other-mask Channels Jobs n = (λ e. omega arith, λ e. omega arith)
-other-mask Channels Channels n = absurd (n refl)
-
-other-last : (t u : Table) → (u ≡ t → ⊥) → (last-word u ≡ mask-word t → ⊥) × (last-word u ≡ last-word t → ⊥)
-other-last Jobs Jobs n = absurd (n refl)
-other-last Jobs Channels n = (λ e. omega arith, λ e. omega arith)
-other-last Channels Jobs n = (λ e. omega arith, λ e. omega arith)
-other-last Channels Channels n = absurd (n refl)
+-- the last tags of two tables
+other-last : (t u : Table) → (u ≡ t → ⊥) → last-word u ≡ last-word t → ⊥
+other-last Jobs Jobs n e = absurd (n refl)
+other-last Jobs Channels n e = omega arith
+other-last Channels Jobs n e = omega arith
+other-last Channels Channels n e = absurd (n refl)
 
 module _ (p q : List ℕ) (t : Table) (k g o b : ℕ) (E : Entered p q t k g o b) (there : k < positions t) (vacant : used p t k ≡ false) where
   small : k < tag-weight
@@ -76,19 +71,18 @@ module _ (p q : List ℕ) (t : Table) (k g o b : ℕ) (E : Entered p q t k g o b
   field-other u j f l m x =
       let a = slot-within u j l in
       let c = places u .after in
-      let d = places t .mask-low in
       let e = places t .last-low in
-      E .other (slot u j + f) (omega arith) (away t u j k f l m there x) (λ z. omega arith) (λ z. omega arith)
+      E .other (slot u j + f) (omega arith) (away t u j k f l m there x) (spares-past t (slot u j + f) (omega arith)) (λ z. omega arith)
 
-  pub low-other : (j : ℕ) → j < first-job → (j ≡ mask-word t → ⊥) → (j ≡ last-word t → ⊥) → word q j ≡ word p j
+  pub low-other : (j : ℕ) → j < first-job → Spares t j → (j ≡ last-word t → ⊥) → word q j ≡ word p j
   low-other j l m n = let a = places t .after in E .other j (omega arith) (inl (omega arith)) m n
 
   module _ (u : Table) (n : u ≡ t → ⊥) where
-    pub other-table-mask : word q (mask-word u) ≡ word p (mask-word u)
-    other-table-mask = let h = other-mask t u n in low-other (mask-word u) (places u .mask-low) (h .0) (h .1)
+    pub other-table-mask : members q u ≡ members p u
+    other-table-mask = members-same p q u (λ j h. low-other j (holds-low u j h) (spares-other t u n j h) (λ e. spares-last u t (subst (Holds u) e h)))
 
     pub other-table-last : word q (last-word u) ≡ word p (last-word u)
-    other-table-last = let h = other-last t u n in low-other (last-word u) (places u .last-low) (h .0) (h .1)
+    other-table-last = low-other (last-word u) (places u .last-low) (spares-last t u) (other-last t u n)
 
     pub other-table-field : (j f : ℕ) → j < positions u → f < width u → field q u j f ≡ field p u j f
     other-table-field j f l m = field-other u j f l m (λ z. n (z .0))
@@ -101,10 +95,10 @@ module _ (p q : List ℕ) (t : Table) (k g o b : ℕ) (E : Entered p q t k g o b
 
   -- positions in use
   pub used-here : used q t k ≡ true
-  used-here = used-is q t k there ∙ ap (λ (x : ℕ). bit x k) (E .mask) ∙ with-bit-here (word p (mask-word t)) k
+  used-here = used-is q t k there ∙ ap (λ (x : ℕ). bit x k) (E .mask) ∙ with-bit-here (members p t) k
 
   pub used-other : (j : ℕ) → j < positions t → (j ≡ k → ⊥) → used q t j ≡ used p t j
-  used-other j l n = used-is q t j l ∙ ap (λ (x : ℕ). bit x j) (E .mask) ∙ with-bit-other (word p (mask-word t)) k j n ∙ sym (used-is p t j l)
+  used-other j l n = used-is q t j l ∙ ap (λ (x : ℕ). bit x j) (E .mask) ∙ with-bit-other (members p t) k j n ∙ sym (used-is p t j l)
 
   pub another : (j : ℕ) → used p t j ≡ true → j ≡ k → ⊥
   another j u e = false-true (sym vacant ∙ ap (used p t) (sym e) ∙ u)

@@ -1,6 +1,6 @@
 -- The longwords of a picture in which an entry was made.
 use Prim.Native.Nat.{ℕ, _+_, _≤_, _<_}
-use mathlib.Core.Path.{_≡_, ap, _∙_}
+use mathlib.Core.Path.{_≡_, ap, _∙_, subst}
 use mathlib.Core.Logic.{⊎-elim, _⊎_, inl, inr}
 use mathlib.Core.List.{List}
 use lib.ListN.{length, length-set}
@@ -8,12 +8,13 @@ use lib.Seq.{getD-set-same, getD-set-other}
 use native.Mathlib.Omega.{arith}
 use Rattle.words.specs.Words.{word, put, clear}
 use Rattle.words.proofs.Words.{length-clear}
-use Rattle.picture.specs.Layout.{heap-base, positions, width, first-record, mask-word, last-word, first-job}
-use Rattle.picture.specs.Records.{slot, field, number, owner, base, base-field, number-field, owner-field}
+use Rattle.picture.specs.Layout.{heap-base, positions, width, first-record, last-word, first-job}
+use Rattle.picture.specs.Records.{slot, field, number, owner, base, base-field, number-field, owner-field, members, with-members}
 use Rattle.picture.specs.Numbers.{number-of}
 use Rattle.picture.specs.declared.Table.{Table}
 use Rattle.picture.specs.declared.Table.the-variants.{Jobs, Channels}
 use Rattle.picture.proofs.Records.{slot-within}
+use Rattle.picture.proofs.Members.{Holds, Spares, holds-low, spares-past, spares-last, members-same, length-with-members, with-members-other, members-with}
 use Rattle.headers.specs.Area.{Outside}
 use Rattle.headers.proofs.Clear.{clear-other, clear-zeros}
 use Rattle.masks.specs.Masks.{with-bit}
@@ -23,12 +24,12 @@ use Rattle.keeping.proofs.Tables.{TablesSame, mask-same}
 -- q is p with the entry of tag g at position k of the table t, of owner o and base b
 pub record Entered (p q : List ℕ) (t : Table) (k g o b : ℕ) : Type 0 where
   pub long : length q ≡ length p
-  pub other : (j : ℕ) → j < heap-base → Outside (slot t k) (slot t k + width t) j → (j ≡ mask-word t → ⊥) → (j ≡ last-word t → ⊥) → word q j ≡ word p j
+  pub other : (j : ℕ) → j < heap-base → Outside (slot t k) (slot t k + width t) j → Spares t j → (j ≡ last-word t → ⊥) → word q j ≡ word p j
   pub its-number : number q t k ≡ number-of g k
   pub its-owner : owner q t k ≡ o
   pub its-base : base q t k ≡ b
   pub its-rest : (f : ℕ) → base-field < f → f < width t → field q t k f ≡ 0
-  pub mask : word q (mask-word t) ≡ with-bit (word p (mask-word t)) k
+  pub mask : members q t ≡ with-bit (members p t) k
   pub last : word q (last-word t) ≡ g
 
 -- a record of w longwords at s that holds n, o and b
@@ -71,17 +72,15 @@ module _ (p : List ℕ) (s w n o b : ℕ) (wide : base-field < w) (inside : s + 
       ∙ getD-set-other cleared (s + number-field) (s + f) n 0 (λ e. omega arith)
       ∙ clear-zeros w p s (s + f) inside (omega arith) (omega arith)
 
--- where the mask and the last tag stand
+-- where the records and the last tag stand
 pub record Places (t : Table) : Type 0 where
   pub wide : base-field < width t
   pub after : first-job ≤ first-record t
-  pub mask-low : mask-word t < first-job
   pub last-low : last-word t < first-job
-  pub differ : mask-word t ≡ last-word t → ⊥
 
 pub places : (t : Table) → Places t
-places Jobs = record { wide = omega arith; after = omega arith; mask-low = omega arith; last-low = omega arith; differ = λ e. omega arith }
-places Channels = record { wide = omega arith; after = omega arith; mask-low = omega arith; last-low = omega arith; differ = λ e. omega arith }
+places Jobs = record { wide = omega arith; after = omega arith; last-low = omega arith }
+places Channels = record { wide = omega arith; after = omega arith; last-low = omega arith }
 
 module _ (p : List ℕ) (t : Table) (k g o b : ℕ) (there : k < positions t) (whole : heap-base ≤ length p) where
   fits : slot t k + width t ≤ length p
@@ -103,15 +102,15 @@ module _ (p : List ℕ) (t : Table) (k g o b : ℕ) (there : k < positions t) (w
 
   Q-long : length Q ≡ length p
   unfolding entered counted
-  Q-long = simp length-set R-long
+  Q-long = simp length-set (length-with-members R t (with-bit (members R t) k) ∙ R-long)
 
   -- past the mask and the last tag
-  Q-past : (j : ℕ) → (j ≡ mask-word t → ⊥) → (j ≡ last-word t → ⊥) → word Q j ≡ word R j
+  Q-past : (j : ℕ) → Spares t j → (j ≡ last-word t → ⊥) → word Q j ≡ word R j
   unfolding entered counted
-  Q-past j m l = getD-set-other (put R (mask-word t) (with-bit (word R (mask-word t)) k)) (last-word t) j g 0 l ∙ getD-set-other R (mask-word t) j (with-bit (word R (mask-word t)) k) 0 m
+  Q-past j m l = getD-set-other (with-members R t (with-bit (members R t) k)) (last-word t) j g 0 l ∙ with-members-other R t (with-bit (members R t) k) j m
 
   Q-above : (j : ℕ) → first-job ≤ j → word Q j ≡ word R j
-  Q-above j l = let a = places t .mask-low in let c = places t .last-low in Q-past j (λ e. omega arith) (λ e. omega arith)
+  Q-above j l = let c = places t .last-low in Q-past j (spares-past t j l) (λ e. omega arith)
 
   of-record : (f : ℕ) → word Q (slot t k + f) ≡ word R (slot t k + f)
   of-record f = let a = places t .after in Q-above (slot t k + f) (omega arith)
@@ -132,18 +131,17 @@ module _ (p : List ℕ) (t : Table) (k g o b : ℕ) (there : k < positions t) (w
   unfolding recorded
   Q-rest f l m = of-record f ∙ row-rest p (slot t k) (width t) (number-of g k) o b (places t .wide) fits f l m
 
-  Q-mask : word Q (mask-word t) ≡ with-bit (word p (mask-word t)) k
+  Q-mask : members Q t ≡ with-bit (members p t) k
   unfolding entered counted
   Q-mask =
-      let a = places t .mask-low in
       let c = places t .after in
-      getD-set-other (put R (mask-word t) (with-bit (word R (mask-word t)) k)) (last-word t) (mask-word t) g 0 (places t .differ)
-      ∙ getD-set-same R (mask-word t) (with-bit (word R (mask-word t)) k) 0 (rw R-long (omega arith))
-      ∙ ap (λ (x : ℕ). with-bit x k) (R-other (mask-word t) (inl (omega arith)))
+      members-same (with-members R t (with-bit (members R t) k)) Q t (λ j h. getD-set-other (with-members R t (with-bit (members R t) k)) (last-word t) j g 0 (λ e. spares-last t t (subst (Holds t) e h)))
+      ∙ members-with R t (with-bit (members R t) k) (rw R-long (omega arith))
+      ∙ ap (λ (x : ℕ). with-bit x k) (members-same p R t (λ j h. let l = holds-low t j h in R-other j (inl (omega arith))))
 
   Q-last : word Q (last-word t) ≡ g
   unfolding entered counted
-  Q-last = let a = places t .last-low in getD-set-same (put R (mask-word t) (with-bit (word R (mask-word t)) k)) (last-word t) g 0 (simp length-set (rw R-long (omega arith)))
+  Q-last = let a = places t .last-low in getD-set-same (with-members R t (with-bit (members R t) k)) (last-word t) g 0 (rw (length-with-members R t (with-bit (members R t) k), R-long) (omega arith))
 
   pub entered-is : Entered p (entered p t k g o b) t k g o b
   entered-is = record {

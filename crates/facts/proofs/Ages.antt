@@ -7,8 +7,8 @@ use mathlib.Core.List.{List}
 use native.Mathlib.Omega.{arith}
 use Rattle.words.specs.Words.{word}
 use Rattle.words.proofs.Tests.{false-true}
-use Rattle.picture.specs.Layout.{last-word, mask-word, positions}
-use Rattle.picture.specs.Records.{number}
+use Rattle.picture.specs.Layout.{last-word, positions}
+use Rattle.picture.specs.Records.{number, members}
 use Rattle.picture.specs.Numbers.{tag, live}
 use Rattle.picture.specs.declared.Table.{Table}
 use Rattle.facts.proofs.Same.{live-same}
@@ -30,7 +30,7 @@ ages-then p q r t a b =
     }
 
 -- a picture with the same mask, last tag and numbers has the same live numbers
-pub ages-same : (p q : List ℕ) (t : Table) → word q (last-word t) ≡ word p (last-word t) → word q (mask-word t) ≡ word p (mask-word t) → ((k : ℕ) → k < positions t → number q t k ≡ number p t k) → Ages p q t
+pub ages-same : (p q : List ℕ) (t : Table) → word q (last-word t) ≡ word p (last-word t) → members q t ≡ members p t → ((k : ℕ) → k < positions t → number q t k ≡ number p t k) → Ages p q t
 ages-same p q t l m s = record { rises = omega arith; newer = λ n h. inl (sym (live-same p q t m s n) ∙ h) }
 
 -- a number that is dead, with a tag that was given, stays dead

@@ -10,8 +10,8 @@ use lib.Dec.{ltb, leb, eqb}
 use Rattle.words.specs.Words.{word}
 use Rattle.words.specs.Each.{In}
 use Rattle.words.proofs.Tests.{both, lt-or-ge, false-true}
-use Rattle.picture.specs.Layout.{nobody, size-word, current-word, last-word, heap-word, zero-word, heap-base, mask-word, positions, width, from, upto}
-use Rattle.picture.specs.Records.{slot, field, number, owner, base, priority, accumulated, timeout, waited-for, ending, used, ready}
+use Rattle.picture.specs.Layout.{nobody, size-word, current-word, last-word, heap-word, zero-word, heap-base, positions, width, from, upto}
+use Rattle.picture.specs.Records.{slot, field, number, owner, base, priority, accumulated, timeout, waited-for, ending, used, ready, members}
 use Rattle.picture.specs.Numbers.{tag, position, live}
 use Rattle.picture.specs.declared.Table.{Table}
 use Rattle.picture.specs.declared.Table.the-variants.{Jobs, Channels}
@@ -31,7 +31,7 @@ use Rattle.facts.proofs.View.{claims-used}
 use Rattle.facts.proofs.Sound.{Sizes, Queue, Waits, Owned, Entries, Jobs-fine, Channels-fine, Fits, Tiled, Current, Sound}
 
 -- positions in use, entries with a block, and live numbers
-module _ (p q : List ℕ) (t : Table) (m : word q (mask-word t) ≡ word p (mask-word t)) where
+module _ (p q : List ℕ) (t : Table) (m : members q t ≡ members p t) where
   pub used-same : (k : ℕ) → used q t k ≡ used p t k
   unfolding used
   used-same k = rw m
@@ -57,7 +57,7 @@ owned-kept p q may n l o = ⊎-elim inl (λ e. inr (l n e)) o
 
 -- the records of a table
 pub record EntriesSame (p q : List ℕ) (t : Table) : Type 0 where
-  pub mask : word q (mask-word t) ≡ word p (mask-word t)
+  pub mask : members q t ≡ members p t
   pub last : word q (last-word t) ≡ word p (last-word t)
   pub numbers : (k : ℕ) → k < positions t → number q t k ≡ number p t k
   pub owners : (k : ℕ) → k < positions t → owner q t k ≡ owner p t k
@@ -184,7 +184,7 @@ module _ (p q : List ℕ) (a : Area) (s : AreaSame p q a) (T : Tiled p a) where
 
 -- entries and blocks that are the same still match
 pub record MatchSame (p q : List ℕ) (t : Table) : Type 0 where
-  pub mask : word q (mask-word t) ≡ word p (mask-word t)
+  pub mask : members q t ≡ members p t
   pub owners : (k : ℕ) → k < positions t → owner q t k ≡ owner p t k
   pub bases : (k : ℕ) → k < positions t → base q t k ≡ base p t k
   pub walk : blocks q (area-of t) ≡ blocks p (area-of t)

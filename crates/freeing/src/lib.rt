@@ -6,7 +6,6 @@ use blocks::KIND;
 use blocks::next_block;
 use headers::put_header;
 use picture::JOBS;
-use words::is_set;
 use words::put;
 use words::word;
 ghost use mathlib.Core.Path.{_≡_};
@@ -15,18 +14,18 @@ ghost use Rattle.picture.specs.Layout.{greatest-size as greatestSize};
 ghost use Rattle.freeing.specs.Sweep.{named, goes, freed, absorbed, joined, run, swept};
 
 // The position of the number `owner` is in the mask.
-pub fn is_named(mask: u32, owner: u32) -> bool
+pub fn is_named(mask: u64, owner: u32) -> bool
     ensures { λ r. ⌜ r ≡ named mask owner ⌝ }
 {
     let k = picture::position_of(owner);
     if k < JOBS {
-        return is_set(mask, k);
+        return masks::is_member(mask, k);
     }
     false
 }
 
 // The block at i goes.
-pub fn is_going(p: &[u32], mask: u32, block: usize, i: usize) -> bool
+pub fn is_going(p: &[u32], mask: u64, block: usize, i: usize) -> bool
     requires { ⌜ i < greatestSize ⌝ }
     ensures { λ r. ⌜ r ≡ goes (now (p .entry)) mask block i ⌝ }
 {
@@ -34,7 +33,7 @@ pub fn is_going(p: &[u32], mask: u32, block: usize, i: usize) -> bool
 }
 
 // The block at i is free if it goes.
-pub fn free_block(p: &mut [u32], mask: u32, block: usize, i: usize)
+pub fn free_block(p: &mut [u32], mask: u64, block: usize, i: usize)
     requires { ⌜ i < greatestSize ⌝ }
     ensures { λ _. ⌜ now (p .exit) ≡ freed (now (p .entry)) mask block i ⌝ }
 {
@@ -79,7 +78,7 @@ pub fn run_start(p: &[u32], e: usize, r: usize, i: usize) -> usize
 }
 
 // The blocks of the area from base to e that go are free, and free neighbours are one block.
-pub fn sweep(p: &mut [u32], base: usize, e: usize, mask: u32, block: usize)
+pub fn sweep(p: &mut [u32], base: usize, e: usize, mask: u64, block: usize)
     requires { ⌜ e ≤ greatestSize ⌝ }
     ensures { λ _. ⌜ now (p .exit) ≡ swept (now (p .entry)) base e mask block ⌝ }
 {

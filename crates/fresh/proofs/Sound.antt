@@ -9,8 +9,8 @@ use lib.ListN.{length, getD, replicate, length-set, length-replicate, getD-repli
 use lib.Seq.{getD-set-same, getD-set-other}
 use Rattle.words.specs.Words.{word, put}
 use Rattle.words.specs.Each.{In}
-use Rattle.picture.specs.Layout.{nobody, size-word, last-word, heap-word, mask-word, zero-word, heap-base, positions, width, from, upto, greatest-priority}
-use Rattle.picture.specs.Records.{slot, field, number-field, owner-field, base-field, priority-field, accumulated-field, timeout-field, wait-field, owner, priority, used, ready}
+use Rattle.picture.specs.Layout.{nobody, size-word, current-word, last-word, heap-word, zero-word, heap-base, positions, width, from, upto, greatest-priority}
+use Rattle.picture.specs.Records.{slot, field, number-field, owner-field, base-field, priority-field, accumulated-field, timeout-field, wait-field, owner, priority, used, ready, members, with-members}
 use Rattle.picture.specs.Numbers.{tag, position, live}
 use Rattle.picture.specs.declared.Table.{Table}
 use Rattle.picture.specs.declared.Table.the-variants.{Jobs, Channels}
@@ -18,6 +18,7 @@ use Rattle.picture.specs.declared.Area.{Area}
 use Rattle.picture.specs.declared.Area.the-variants.{Heap, Transient}
 use Rattle.picture.proofs.Records.{used-below, used-is}
 use Rattle.picture.proofs.Numbers.{is-live}
+use Rattle.picture.proofs.Members.{Holds, Spares, holds-low, spares-size, spares-current, spares-heap, spares-zero, spares-last, spares-past, spares-other, channels-apart, members-same, members-none, length-with-members, with-members-other, members-with}
 use Rattle.blocks.specs.Header.{header-width, kind-field, holder-field, start-field, size, kind, kind-of}
 use Rattle.blocks.specs.Walk.{good, next, starts, blocks}
 use Rattle.blocks.proofs.Walk.{Good, good-is, next-good, starts-end, starts-more}
@@ -40,7 +41,7 @@ zeros n i = ⊎-elim (λ l. getD-replicate n i 0 0 l) (λ l. List·getD-eq-defau
 
 pub length-fresh : (n h : ℕ) → length (fresh n h) ≡ n
 unfolding fresh
-length-fresh n h = simp (length-set, length-replicate)
+length-fresh n h = simp (length-set, length-with-members, length-replicate)
 
 module _ (n h : ℕ) (g : Sizes n n h) where
   abbrev q : List ℕ
@@ -57,12 +58,12 @@ module _ (n h : ℕ) (g : Sizes n n h) where
   record At : Type 0 where
     size : word q size-word ≡ n
     heap : word q heap-word ≡ h
-    mask : word q (mask-word Jobs) ≡ 1
+    mask : members q Jobs ≡ 1
     owner : word q zero-owner ≡ nobody
     priority : word q zero-priority ≡ first-priority
     heap-block : word q heap-base ≡ h * 4
     transient-block : word q (heap-base + h) ≡ (n - (heap-base + h)) * 4
-    other : (i : ℕ) → (i ≡ size-word → ⊥) → (i ≡ heap-word → ⊥) → (i ≡ mask-word Jobs → ⊥) → (i ≡ zero-owner → ⊥) → (i ≡ zero-priority → ⊥) → (i ≡ heap-base → ⊥) → (i ≡ heap-base + h → ⊥) → word q i ≡ 0
+    other : (i : ℕ) → (i ≡ size-word → ⊥) → (i ≡ heap-word → ⊥) → Spares Jobs i → (i ≡ zero-owner → ⊥) → (i ≡ zero-priority → ⊥) → (i ≡ heap-base → ⊥) → (i ≡ heap-base + h → ⊥) → word q i ≡ 0
 
   abbrev p0 : List ℕ
   p0 = replicate n 0
@@ -74,7 +75,7 @@ module _ (n h : ℕ) (g : Sizes n n h) where
   p2 = put p1 heap-word h
 
   abbrev p3 : List ℕ
-  p3 = put p2 (mask-word Jobs) 1
+  p3 = with-members p2 Jobs 1
 
   abbrev p4 : List ℕ
   p4 = put p3 zero-owner nobody
@@ -102,20 +103,22 @@ module _ (n h : ℕ) (g : Sizes n n h) where
       let c = g .least in
       let l1 = long p0 size-word n l0 in
       let l2 = long p1 heap-word h l1 in
-      let l3 = long p2 (mask-word Jobs) 1 l2 in
+      let l3 : length p3 ≡ n = length-with-members p2 Jobs 1 ∙ l2 in
       let l4 = long p3 zero-owner nobody l3 in
       let l5 = long p4 zero-priority first-priority l4 in
       let l6 = long p5 heap-base (h * 4) l5 in
       let skip : (l : List ℕ) (i j v : ℕ) → (j ≡ i → ⊥) → word (put l i v) j ≡ word l j = λ l i j v d. getD-set-other l i j v 0 d in
       record {
-        size = skip p6 (heap-base + h) size-word _ (λ e. omega arith) ∙ skip p5 heap-base size-word _ (λ e. omega arith) ∙ skip p4 zero-priority size-word _ (λ e. omega arith) ∙ skip p3 zero-owner size-word _ (λ e. omega arith) ∙ skip p2 (mask-word Jobs) size-word _ (λ e. omega arith) ∙ skip p1 heap-word size-word _ (λ e. omega arith) ∙ getD-set-same p0 size-word n 0 (omega (arith, l0));
-        heap = skip p6 (heap-base + h) heap-word _ (λ e. omega arith) ∙ skip p5 heap-base heap-word _ (λ e. omega arith) ∙ skip p4 zero-priority heap-word _ (λ e. omega arith) ∙ skip p3 zero-owner heap-word _ (λ e. omega arith) ∙ skip p2 (mask-word Jobs) heap-word _ (λ e. omega arith) ∙ getD-set-same p1 heap-word h 0 (omega arith);
-        mask = skip p6 (heap-base + h) (mask-word Jobs) _ (λ e. omega arith) ∙ skip p5 heap-base (mask-word Jobs) _ (λ e. omega arith) ∙ skip p4 zero-priority (mask-word Jobs) _ (λ e. omega arith) ∙ skip p3 zero-owner (mask-word Jobs) _ (λ e. omega arith) ∙ getD-set-same p2 (mask-word Jobs) 1 0 (omega arith);
+        size = skip p6 (heap-base + h) size-word _ (λ e. omega arith) ∙ skip p5 heap-base size-word _ (λ e. omega arith) ∙ skip p4 zero-priority size-word _ (λ e. omega arith) ∙ skip p3 zero-owner size-word _ (λ e. omega arith) ∙ with-members-other p2 Jobs 1 size-word (spares-size Jobs) ∙ skip p1 heap-word size-word _ (λ e. omega arith) ∙ getD-set-same p0 size-word n 0 (omega (arith, l0));
+        heap = skip p6 (heap-base + h) heap-word _ (λ e. omega arith) ∙ skip p5 heap-base heap-word _ (λ e. omega arith) ∙ skip p4 zero-priority heap-word _ (λ e. omega arith) ∙ skip p3 zero-owner heap-word _ (λ e. omega arith) ∙ with-members-other p2 Jobs 1 heap-word (spares-heap Jobs) ∙ getD-set-same p1 heap-word h 0 (omega arith);
+        mask =
+            members-same p3 p7 Jobs (λ j x. let y = holds-low Jobs j x in skip p6 (heap-base + h) j _ (λ e. omega arith) ∙ skip p5 heap-base j _ (λ e. omega arith) ∙ skip p4 zero-priority j _ (λ e. omega arith) ∙ skip p3 zero-owner j _ (λ e. omega arith))
+            ∙ members-with p2 Jobs 1 (omega arith);
         owner = skip p6 (heap-base + h) zero-owner _ (λ e. omega arith) ∙ skip p5 heap-base zero-owner _ (λ e. omega arith) ∙ skip p4 zero-priority zero-owner _ (λ e. omega arith) ∙ getD-set-same p3 zero-owner nobody 0 (omega arith);
         priority = skip p6 (heap-base + h) zero-priority _ (λ e. omega arith) ∙ skip p5 heap-base zero-priority _ (λ e. omega arith) ∙ getD-set-same p4 zero-priority first-priority 0 (omega arith);
         heap-block = skip p6 (heap-base + h) heap-base _ (λ e. omega arith) ∙ getD-set-same p5 heap-base (h * 4) 0 (omega arith);
         transient-block = getD-set-same p6 (heap-base + h) ((n - (heap-base + h)) * 4) 0 (omega arith);
-        other = λ i d0 d4 d5 d9 d11 dh dt. skip p6 (heap-base + h) i _ dt ∙ skip p5 heap-base i _ dh ∙ skip p4 zero-priority i _ d11 ∙ skip p3 zero-owner i _ d9 ∙ skip p2 (mask-word Jobs) i _ d5 ∙ skip p1 heap-word i _ d4 ∙ skip p0 size-word i _ d0 ∙ zeros n i;
+        other = λ i d0 d4 d5 d9 d11 dh dt. skip p6 (heap-base + h) i _ dt ∙ skip p5 heap-base i _ dh ∙ skip p4 zero-priority i _ d11 ∙ skip p3 zero-owner i _ d9 ∙ with-members-other p2 Jobs 1 i d5 ∙ skip p1 heap-word i _ d4 ∙ skip p0 size-word i _ d0 ∙ zeros n i;
       }
 
   -- only job 0 is in use, and no channel
@@ -134,7 +137,10 @@ module _ (n h : ℕ) (g : Sizes n n h) where
 
   no-channel : (k : ℕ) → used q Channels k ≡ true → ⊥
   no-channel k u =
-      let z : word q (mask-word Channels) ≡ 0 = let b = g .heap-least in at .other (mask-word Channels) (λ e. omega arith) (λ e. omega arith) (λ e. omega arith) (λ e. omega arith) (λ e. omega arith) (λ e. omega arith) (λ e. omega arith) in
+      let z : members q Channels ≡ 0 = members-none q Channels (λ j x.
+      let y = holds-low Channels j x in
+      let b = g .heap-least in
+      at .other j (λ e. spares-size Channels (subst (Holds Channels) e x)) (λ e. spares-heap Channels (subst (Holds Channels) e x)) (spares-other Jobs Channels channels-apart j x) (λ e. omega arith) (λ e. omega arith) (λ e. omega arith) (λ e. omega arith)) in
       let y = rw (z, zero-div (2 ^ k)) at (sym (used-is q Channels k (used-below q Channels k u)) ∙ u) in
       false-true y
 
@@ -143,8 +149,8 @@ module _ (n h : ℕ) (g : Sizes n n h) where
 
   -- the fields of records: job 0's owner and priority, and zeros
   blank-field : (t : Table) (k f : ℕ) → k < positions t → f < width t → (slot t k + f ≡ zero-owner → ⊥) → (slot t k + f ≡ zero-priority → ⊥) → field q t k f ≡ 0
-  blank-field Jobs k f a b x y = let c = g .heap-least in at .other (slot Jobs k + f) (λ e. omega arith) (λ e. omega arith) (λ e. omega arith) x y (λ e. omega arith) (λ e. omega arith)
-  blank-field Channels k f a b x y = let c = g .heap-least in at .other (slot Channels k + f) (λ e. omega arith) (λ e. omega arith) (λ e. omega arith) x y (λ e. omega arith) (λ e. omega arith)
+  blank-field Jobs k f a b x y = let c = g .heap-least in at .other (slot Jobs k + f) (λ e. omega arith) (λ e. omega arith) (spares-past Jobs (slot Jobs k + f) (omega arith)) x y (λ e. omega arith) (λ e. omega arith)
+  blank-field Channels k f a b x y = let c = g .heap-least in at .other (slot Channels k + f) (λ e. omega arith) (λ e. omega arith) (spares-past Jobs (slot Channels k + f) (omega arith)) x y (λ e. omega arith) (λ e. omega arith)
 
   field-zero : (k f : ℕ) → k < positions Jobs → f < width Jobs → (f ≡ owner-field → ⊥) → (f ≡ priority-field → ⊥) → field q Jobs k f ≡ 0
   field-zero k f a b x y = blank-field Jobs k f a b (λ e. x (omega arith)) (λ e. y (omega arith))
@@ -171,8 +177,8 @@ module _ (n h : ℕ) (g : Sizes n n h) where
   block-first a i m = let u = upto-is a in ⊎-elim (λ e. e) absurd (rw (single (from q a) (upto q a) (u .0) (u .1) (u .2) (u .3)) at m)
 
   header-zero : (a : Area) (f : ℕ) → 0 < f → f < header-width → word q (from q a + f) ≡ 0
-  header-zero Heap f l m = let c = g .heap-least in at .other (heap-base + f) (λ e. omega arith) (λ e. omega arith) (λ e. omega arith) (λ e. omega arith) (λ e. omega arith) (λ e. omega arith) (λ e. omega arith)
-  header-zero Transient f l m = let c = g .heap-least in rw (at .heap) (at .other (heap-base + h + f) (λ e. omega arith) (λ e. omega arith) (λ e. omega arith) (λ e. omega arith) (λ e. omega arith) (λ e. omega arith) (λ e. omega arith))
+  header-zero Heap f l m = let c = g .heap-least in at .other (heap-base + f) (λ e. omega arith) (λ e. omega arith) (spares-past Jobs (heap-base + f) (omega arith)) (λ e. omega arith) (λ e. omega arith) (λ e. omega arith) (λ e. omega arith)
+  header-zero Transient f l m = let c = g .heap-least in rw (at .heap) (at .other (heap-base + h + f) (λ e. omega arith) (λ e. omega arith) (spares-past Jobs (heap-base + h + f) (omega arith)) (λ e. omega arith) (λ e. omega arith) (λ e. omega arith) (λ e. omega arith))
 
   kind-free : (a : Area) (i : ℕ) → In i (blocks q a) → kind q i ≡ 0
   kind-free a i m = ap (λ (x : ℕ). kind q x) (block-first a i m) ∙ header-zero a kind-field (omega arith) (omega arith)
@@ -253,7 +259,7 @@ module _ (n h : ℕ) (g : Sizes n n h) where
   unfolding ready
   fresh-is-sound =
       let z = length-fresh n h in
-      let o : (i : ℕ) → 0 < i → i < zero-owner → (i ≡ heap-word → ⊥) → (i ≡ mask-word Jobs → ⊥) → word q i ≡ 0 = λ i a b x y. let c = g .heap-least in at .other i (λ e. omega arith) x y (λ e. omega arith) (λ e. omega arith) (λ e. omega arith) (λ e. omega arith) in
+      let o : (i : ℕ) → 0 < i → i < zero-owner → (i ≡ heap-word → ⊥) → Spares Jobs i → word q i ≡ 0 = λ i a b x y. let c = g .heap-least in at .other i (λ e. omega arith) x y (λ e. omega arith) (λ e. omega arith) (λ e. omega arith) (λ e. omega arith) in
       let f : (k f : ℕ) → k < positions Jobs → f < width Jobs → (f ≡ owner-field → ⊥) → (f ≡ priority-field → ⊥) → field q Jobs k f ≡ 0 = field-zero in
       sound-again q (record {
         sizes = record {
@@ -264,8 +270,8 @@ module _ (n h : ℕ) (g : Sizes n n h) where
           heap-fours = rw (at .heap) (g .heap-fours);
           heap-least = rw (at .heap) (g .heap-least);
           heap-most = rw (at .heap, z) (g .heap-most);
-          nought = o zero-word (omega arith) (omega arith) (λ e. omega arith) (λ e. omega arith);
-          last = elim [ Jobs ↦ rw (o (last-word Jobs) (omega arith) (omega arith) (λ e. omega arith) (λ e. omega arith)) (omega arith) | Channels ↦ rw (o (last-word Channels) (omega arith) (omega arith) (λ e. omega arith) (λ e. omega arith)) (omega arith) ];
+          nought = o zero-word (omega arith) (omega arith) (λ e. omega arith) (spares-zero Jobs);
+          last = elim [ Jobs ↦ rw (o (last-word Jobs) (omega arith) (omega arith) (λ e. omega arith) (spares-last Jobs Jobs)) (omega arith) | Channels ↦ rw (o (last-word Channels) (omega arith) (omega arith) (λ e. omega arith) (spares-last Jobs Channels)) (omega arith) ];
         };
         jobs = record {
           entries = job-entries;
@@ -286,8 +292,8 @@ module _ (n h : ℕ) (g : Sizes n n h) where
         current = inr current;
       })
     where
-      current : (live q Jobs (word q 1) ≡ true) × (ready q (position (word q 1)) ≡ true)
+      current : (live q Jobs (word q current-word) ≡ true) × (ready q (position (word q current-word)) ≡ true)
       current =
           let c = g .heap-least in
-          let z : word q 1 ≡ 0 = at .other 1 (λ e. omega arith) (λ e. omega arith) (λ e. omega arith) (λ e. omega arith) (λ e. omega arith) (λ e. omega arith) (λ e. omega arith) in
+          let z : word q current-word ≡ 0 = at .other current-word (λ e. omega arith) (λ e. omega arith) (spares-current Jobs) (λ e. omega arith) (λ e. omega arith) (λ e. omega arith) (λ e. omega arith) in
           rw z (is-live q Jobs 0 (record { used = zero-used; names = field-zero 0 number-field (omega arith) (omega arith) (λ e. omega arith) (λ e. omega arith) }), rw (at .priority, field-zero 0 timeout-field (omega arith) (omega arith) (λ e. omega arith) (λ e. omega arith)))

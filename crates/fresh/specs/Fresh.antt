@@ -6,8 +6,8 @@ use lib.ListN.{length, replicate}
 use lib.IntN.{ℤ}
 use lib.Dec.{eqb}
 use Rattle.words.specs.Words.{put}
-use Rattle.picture.specs.Layout.{nobody, size-word, heap-word, mask-word, heap-base}
-use Rattle.picture.specs.Records.{slot, owner-field, priority-field}
+use Rattle.picture.specs.Layout.{nobody, size-word, heap-word, heap-base}
+use Rattle.picture.specs.Records.{slot, owner-field, priority-field, with-members}
 use Rattle.picture.specs.Keys.{done, out-of-range}
 use Rattle.picture.specs.declared.Table.the-variants.{Jobs}
 use Rattle.sound.specs.Whole.{size-good, heap-good}
@@ -19,10 +19,10 @@ first-priority = 32
 -- a fresh picture of n longwords, h of them the heap; job 0 is current, whose number is 0
 unfoldable pub fresh : ℕ → ℕ → List ℕ
 fresh n h =
-    put (put (put (put (put (put (put (replicate n 0)
+    put (put (put (put (with-members (put (put (replicate n 0)
     size-word n)
     heap-word h)
-    (mask-word Jobs) 1)
+    Jobs 1)
     (slot Jobs 0 + owner-field) nobody)
     (slot Jobs 0 + priority-field) first-priority)
     heap-base (h * 4))

@@ -19,7 +19,7 @@ fn write_fresh(p: &mut [u32], n: u32, h: u32)
     words::clear(p, 0, n as usize);
     put(p, picture::SIZE_WORD, n);
     put(p, picture::HEAP_WORD, h);
-    put(p, picture::mask_of(Table::Jobs), 1);
+    picture::put_members(p, Table::Jobs, 1);
     put(p, picture::FIRST_JOB + picture::OWNER, picture::NOBODY);
     put(p, picture::FIRST_JOB + picture::PRIORITY, FIRST_PRIORITY);
     put(p, picture::HEAP_BASE, h * 4);

@@ -7,13 +7,14 @@ use mathlib.Core.List.{List}
 use native.Mathlib.Omega.{arith}
 use lib.ListN.{length}
 use Rattle.words.specs.Words.{word}
-use Rattle.picture.specs.Layout.{size-word, current-word, last-word, heap-word, zero-word, heap-base, mask-word, positions, width}
-use Rattle.picture.specs.Records.{slot, field, number, owner, base, waited-for, used, ready, accumulated-field, base-field, number-field, owner-field, priority-field, timeout-field, wait-field, ending-field}
+use Rattle.picture.specs.Layout.{size-word, current-word, last-word, heap-word, zero-word, heap-base, positions, width}
+use Rattle.picture.specs.Records.{slot, field, number, owner, base, waited-for, used, ready, accumulated-field, base-field, number-field, owner-field, priority-field, timeout-field, wait-field, ending-field, members}
 use Rattle.picture.specs.Numbers.{position, live}
 use Rattle.picture.specs.declared.Table.{Table}
 use Rattle.picture.specs.declared.Table.the-variants.{Jobs, Channels}
 use Rattle.picture.proofs.Records.{slot-within, used-below, shared}
 use Rattle.picture.proofs.Numbers.{Live, live-is}
+use Rattle.picture.proofs.Members.{holds-low, members-same}
 use Rattle.facts.proofs.Sound.{Sizes, Waits, Owned, Entries, Jobs-fine, Channels-fine, Current, Sound}
 use Rattle.facts.proofs.Same.{used-same, live-same, Lives, EntriesSame, entries-same}
 use Rattle.facts.proofs.Ages.{Ages, ages-same}
@@ -27,9 +28,8 @@ module _ (p q : List ℕ) (s : TablesSame p q) where
   pub field-same : (t : Table) (k f : ℕ) → k < positions t → f < width t → field q t k f ≡ field p t k f
   field-same t k f l m = let h = slot-within t k l in s .words (slot t k + f) (omega arith)
 
-  pub mask-same : (t : Table) → word q (mask-word t) ≡ word p (mask-word t)
-  mask-same Jobs = s .words (mask-word Jobs) (omega arith)
-  mask-same Channels = s .words (mask-word Channels) (omega arith)
+  pub mask-same : (t : Table) → members q t ≡ members p t
+  mask-same t = members-same p q t (λ j h. let l = holds-low t j h in s .words j (omega arith))
 
   pub last-same : (t : Table) → word q (last-word t) ≡ word p (last-word t)
   last-same Jobs = s .words (last-word Jobs) (omega arith)

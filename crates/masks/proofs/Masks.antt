@@ -1,20 +1,22 @@
--- Laws of specs/Masks.antt: setting or clearing a bit is seen at that bit and at no other.
-use Prim.Native.Nat.{ℕ, zero, suc, _+_, _-_, _*_, _/_, _%_, _^_, _≤_, _<_}
+-- Laws of specs/Masks.antt: taking a member in or out is seen at that member and at no other.
+use Prim.Native.Nat.{ℕ, zero, suc, _+_, _-_, _*_, _/_, _%_, _^_, _≤_, _<_, min}
 use mathlib.Core.Path.{_≡_, refl, sym, ap, _∙_}
 use mathlib.Core.Bool.{Bool, true, false, _&&_, _||_, not, cond}
 use mathlib.Core.Logic.{⊎-elim, _⊎_, inl, inr}
 use lib.Dec.{eqb}
-use lib.Pow.{pow-pos, shl-exact}
-use native.Mathlib.Nat.{pow-suc, div-div-eq-div-mul, mul-comm, one-mul}
+use lib.Pow.{pow-pos, pow-mono, shl-exact}
+use lib.Bits.{bitAnd, and-step, and-shr}
+use native.Mathlib.Nat.{pow-suc, pow-succ', div-div-eq-div-mul, mul-comm, one-mul, eq-or-lt-of-le, le-of-suc-le-suc, not-suc-le-zero, div-eq-of-lt}
+use native.Mathlib.Numerals.{add-one}
 use native.Mathlib.Omega.{arith}
 use borrow.Author.Tests.{eqb-true, eqb-false, eq-eqb, ne-eqb}
 use Rattle.words.specs.Bits.{bit}
 use Rattle.words.proofs.Tests.{false-true}
-use Rattle.masks.specs.Masks.{with-bit, without-bit}
+use Rattle.masks.specs.Masks.{set-width, with-bit, without-bit, without, mask}
 
 -- 1 shifted by k
-pub one-shifted : (k : ℕ) → k < 32 → (1 * 2 ^ k) % 4294967296 ≡ 2 ^ k
-one-shifted k h = shl-exact {a = 1} 1 k 32 (omega arith) (omega arith) ∙ one-mul (2 ^ k)
+pub one-shifted : (k : ℕ) → k < set-width → (1 * 2 ^ k) % 18446744073709551616 ≡ 2 ^ k
+one-shifted k h = shl-exact {a = 1} 1 k set-width (omega arith) (omega arith) ∙ one-mul (2 ^ k)
 
 -- bit k + 1 is bit k of the half
 half-bit : (m k : ℕ) → m / 2 ^ suc k ≡ m / 2 / 2 ^ k
@@ -145,3 +147,66 @@ without-bit-le m k = go (bit m k) refl
     go : (b : Bool) → bit m k ≡ b → without-bit m k ≤ m
     go true e = rw (without-bit-taken m k e) (omega arith)
     go false e = rw (without-bit-clear m k e) (omega arith)
+
+-- the set of a test: as many bits as there are positions, and the members are those that pass
+pub mask-more : (f : ℕ → Bool) (n : ℕ) → mask f (n + 1) ≡ cond (f n) (with-bit (mask f n) n) (mask f n)
+unfolding mask
+mask-more f n = rw (add-one n)
+
+pub mask-lt : (f : ℕ → Bool) (n : ℕ) → mask f n < 2 ^ n
+unfolding mask
+mask-lt f zero = omega arith
+mask-lt f (suc n) = go (f n) (let q : 2 ^ suc n ≡ 2 ^ n * 2 = pow-suc 2 n in let l = mask-lt f n in omega arith)
+  where
+    go : (b : Bool) → mask f n < 2 ^ suc n → cond b (with-bit (mask f n) n) (mask f n) < 2 ^ suc n
+    go true l = with-bit-fits (suc n) (mask f n) n (omega arith) l
+    go false l = l
+
+pub mask-fits : (f : ℕ → Bool) (n : ℕ) → n ≤ set-width → mask f n < 2 ^ set-width
+mask-fits f n l = let q = pow-mono {i = n} {j = set-width} l in omega (arith, mask-lt f n)
+
+beyond : (m k : ℕ) → m < 2 ^ k → bit m k ≡ false
+beyond m k l = ap (λ (x : ℕ). eqb (x % 2) 1) (div-eq-of-lt l)
+
+pub mask-bit : (f : ℕ → Bool) (n k : ℕ) → k < n → bit (mask f n) k ≡ f k
+unfolding mask
+mask-bit f zero k l = absurd (not-suc-le-zero l)
+mask-bit f (suc n) k l = ⊎-elim (λ (e : k ≡ n). rw e (here (f n))) (λ h. below h (f n) ∙ mask-bit f n k h) (eq-or-lt-of-le (le-of-suc-le-suc l))
+  where
+    here : (b : Bool) → bit (cond b (with-bit (mask f n) n) (mask f n)) n ≡ b
+    here true = with-bit-here (mask f n) n
+    here false = beyond (mask f n) n (mask-lt f n)
+
+    below : k < n → (b : Bool) → bit (cond b (with-bit (mask f n) n) (mask f n)) k ≡ bit (mask f n) k
+    below h true = with-bit-other (mask f n) n k (λ e. omega arith)
+    below h false = refl
+
+-- the members of n that aren't in m
+inverted : (w k m : ℕ) → k < w → m < 2 ^ w → (2 ^ w - 1 - m) / 2 ^ k % 2 ≡ 1 - m / 2 ^ k % 2
+inverted zero k m l h = absurd (omega arith)
+inverted (suc w) zero m l h =
+    let q : 2 ^ suc w ≡ 2 ^ w * 2 = pow-suc 2 w in
+    let o = pow-pos w in
+    omega arith
+inverted (suc w) (suc k) m l h =
+    let q : 2 ^ suc w ≡ 2 ^ w * 2 = pow-suc 2 w in
+    let o = pow-pos w in
+    let half : (2 ^ suc w - 1 - m) / 2 ≡ 2 ^ w - 1 - m / 2 = omega arith in
+    let i = inverted w k (m / 2) (omega arith) (omega arith) in
+    rw (pow-succ' 2 k, ← div-div-eq-div-mul (2 ^ suc w - 1 - m) 2 (2 ^ k), ← div-div-eq-div-mul m 2 (2 ^ k), half) i
+
+pub without-at : (n m k : ℕ) → k < set-width → m < 2 ^ set-width → bit (without n m) k ≡ not (bit m k) && bit n k
+unfolding without
+without-at n m k l h =
+    let c : (2 ^ set-width - 1 - m) / 2 ^ k % 2 ≡ 1 - m / 2 ^ k % 2 = inverted set-width k m l h in
+    let s = and-step (n / 2 ^ k) ((2 ^ set-width - 1 - m) / 2 ^ k) in
+    rw (and-shr n (2 ^ set-width - 1 - m) k) (go (eqb (m / 2 ^ k % 2) 1) refl ((2 ^ set-width - 1 - m) / 2 ^ k) c s)
+  where
+    go : (b : Bool) → bit m k ≡ b → (i : ℕ) → i % 2 ≡ 1 - m / 2 ^ k % 2
+        → bitAnd (n / 2 ^ k) i ≡ bitAnd (n / 2 ^ k / 2) (i / 2) * 2 + min (n / 2 ^ k % 2) (i % 2)
+        → eqb (bitAnd (n / 2 ^ k) i % 2) 1 ≡ not b && bit n k
+    go true z i c s = let y = eqb-true (m / 2 ^ k % 2) 1 z in ne-eqb (bitAnd (n / 2 ^ k) i % 2) 1 (λ e. omega arith)
+    go false z i c s =
+        let y = eqb-false (m / 2 ^ k % 2) 1 z in
+        let x : bitAnd (n / 2 ^ k) i % 2 ≡ n / 2 ^ k % 2 = omega arith in
+        rw x

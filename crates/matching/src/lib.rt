@@ -44,7 +44,7 @@ pub fn is_meeting(p: &[u32], t: Table, k: usize, i: usize) -> bool
     if field_of(p, t, k, picture::BASE) as usize != 4 * i {
         return false;
     }
-    field_of(p, t, k, picture::OWNER) == tables::word_at(p, i + blocks::HOLDER)
+    field_of(p, t, k, picture::OWNER) == picture::word_at(p, i + blocks::HOLDER)
 }
 
 // The block at i agrees with some record of the table, which is looked for among all.

@@ -10,13 +10,14 @@ use borrow.Author.Tests.{le-leb, eqb-true}
 use Rattle.words.specs.Words.{word}
 use Rattle.words.specs.Each.{In}
 use Rattle.words.proofs.Tests.{both, false-true}
-use Rattle.picture.specs.Layout.{heap-word, size-word, zero-word, last-word, mask-word, positions, width, first-record}
-use Rattle.picture.specs.Records.{slot, field, number, owner, base, ending, used, base-field, owner-field, ending-field, number-field}
+use Rattle.picture.specs.Layout.{heap-word, size-word, zero-word, last-word, positions, width, first-record}
+use Rattle.picture.specs.Records.{slot, field, number, owner, base, ending, used, base-field, owner-field, ending-field, number-field, members}
 use Rattle.picture.specs.Numbers.{live}
 use Rattle.picture.specs.declared.Table.{Table}
 use Rattle.picture.specs.declared.Table.the-variants.{Jobs, Channels}
 use Rattle.picture.specs.declared.Area.the-variants.{Heap, Transient}
 use Rattle.picture.proofs.Records.{used-below}
+use Rattle.picture.proofs.Members.{Spares, holds-low, spares-size, spares-heap, spares-zero, members-same}
 use Rattle.blocks.specs.Header.{kind, kind-of, queue-kind, free}
 use Rattle.blocks.specs.Walk.{blocks}
 use Rattle.matching.specs.Match.{first, area-of, claims}
@@ -86,8 +87,8 @@ module _ (p : List ℕ) (o n : ℕ) (h : sound p ≡ true) (fp : has-position p 
   step : (j : ℕ) → (j ≡ slot Channels k + ending-field → ⊥) → word q j ≡ word e j
   step = the.q-other p o n h fp tg rm
 
-  mask-step : word q (mask-word Channels) ≡ word e (mask-word Channels)
-  mask-step = step (mask-word Channels) (λ x. omega arith)
+  mask-step : members q Channels ≡ members e Channels
+  mask-step = members-same e q Channels (λ j x. let l = holds-low Channels j x in step j (λ y. omega arith))
 
   last-step : word q (last-word Channels) ≡ word e (last-word Channels)
   last-step = step (last-word Channels) (λ x. omega arith)
@@ -109,7 +110,7 @@ module _ (p : List ℕ) (o n : ℕ) (h : sound p ≡ true) (fp : has-position p 
   e-entries = entering-keeps-the-records p e Channels k g o (header-byte at) E there vacant (omega arith) (S .channels .entries) (the.tag-left p o n h fp tg rm) (inr (e-lives o lives-owner))
 
   lives-step : Lives e q
-  lives-step m x = live-same e q Jobs (step (mask-word Jobs) (λ y. omega arith)) (λ j l. step (slot Jobs j + number-field) (λ y. omega arith)) m ∙ x
+  lives-step m x = live-same e q Jobs (members-same e q Jobs (λ j x. let l = holds-low Jobs j x in step j (λ y. omega arith))) (λ j l. step (slot Jobs j + number-field) (λ y. omega arith)) m ∙ x
 
   used-new : used q Channels k ≡ true
   used-new = used-step k ∙ used-here p e Channels k g o (header-byte at) E there vacant
@@ -205,12 +206,12 @@ module _ (p : List ℕ) (o n : ℕ) (h : sound p ≡ true) (fp : has-position p 
       taken Channels i x y z = let f : kind p at ≡ 0 = eqb-true _ _ (the.at-free p o n h fp tg rm) in let w : kind p at ≡ queue-kind = rw y at z in omega arith
       taken Jobs i x y z = no-channel x
 
-  low : (j : ℕ) → j < first-record Channels → (j ≡ mask-word Channels → ⊥) → (j ≡ last-word Channels → ⊥) → word q j ≡ word p j
+  low : (j : ℕ) → j < first-record Channels → Spares Channels j → (j ≡ last-word Channels → ⊥) → word q j ≡ word p j
   low = the.q-low p o n h fp tg rm
 
   pub opened-sound : sound (opened p o n) ≡ true
   opened-sound = sound-again q (record {
-    sizes = sizes-kept p q (the.q-long p o n h fp tg rm) (low size-word (omega arith) (λ x. omega arith) (λ x. omega arith)) (low heap-word (omega arith) (λ x. omega arith) (λ x. omega arith)) (low zero-word (omega arith) (λ x. omega arith) (λ x. omega arith))
+    sizes = sizes-kept p q (the.q-long p o n h fp tg rm) (low size-word (omega arith) (spares-size Channels) (λ x. omega arith)) (low heap-word (omega arith) (spares-heap Channels) (λ x. omega arith)) (low zero-word (omega arith) (spares-zero Channels) (λ x. omega arith))
         (elim [ Jobs ↦ rw (J .last) (S .sizes .last Jobs) | Channels ↦ rw (last-step, E .last) (the.tag-left p o n h fp tg rm) ])
         (S .sizes);
     jobs = jobs-kept p q J (S .jobs);

@@ -11,7 +11,7 @@ use borrow.Author.Tests.{ltb-true}
 use Rattle.words.specs.Words.{word, put}
 use Rattle.words.specs.Each.{In}
 use Rattle.words.proofs.Tests.{false-true}
-use Rattle.picture.specs.Layout.{heap-base, heap-word, size-word, last-word, mask-word, greatest-tag, positions, width, from, upto, first-record, current-word}
+use Rattle.picture.specs.Layout.{heap-base, heap-word, size-word, last-word, greatest-tag, positions, width, from, upto, first-record, current-word}
 use Rattle.picture.specs.Records.{slot, field, used, ending-field}
 use Rattle.picture.specs.Numbers.{free-position, live}
 use Rattle.picture.specs.declared.Table.{Table}
@@ -19,6 +19,7 @@ use Rattle.picture.specs.declared.Table.the-variants.{Jobs, Channels}
 use Rattle.picture.specs.declared.Area.{Area}
 use Rattle.picture.specs.declared.Area.the-variants.{Heap}
 use Rattle.picture.proofs.Records.{slot-within}
+use Rattle.picture.proofs.Members.{Holds, Spares, holds-low, spares-past, spares-size, spares-current, spares-heap, spares-last, spares-other, members-same, jobs-apart}
 use Rattle.blocks.specs.Header.{header-width, kind-field, holder-field, start-field, queue-length-field, queue-oldest-field, queue-count-field, queue-zero-field, queue-bytes-field, with-queue-length, size, kind, queue-kind, free, holder, start, queue-length, queue-oldest, queue-count, queue-zero, rounded}
 use Rattle.blocks.specs.Walk.{starts, blocks}
 use Rattle.blocks.proofs.Starts.{starts-in}
@@ -165,20 +166,20 @@ module _ (p : List ℕ) (o n : ℕ) (h : sound p ≡ true) (free-place : has-pos
   q-areas : (j : ℕ) → heap-base ≤ j → word q j ≡ word r j
   q-areas j l = let w = slot-within Channels k there in q-other j (λ z. omega arith) ∙ entering-keeps-the-areas r Channels k (next-tag p Channels) o (header-byte at) there whole j l
 
-  pub q-low : (j : ℕ) → j < first-record Channels → (j ≡ mask-word Channels → ⊥) → (j ≡ last-word Channels → ⊥) → word q j ≡ word p j
+  pub q-low : (j : ℕ) → j < first-record Channels → Spares Channels j → (j ≡ last-word Channels → ⊥) → word q j ≡ word p j
   q-low j l a b = q-other j (λ z. omega arith) ∙ entry .other j (omega arith) (inl (omega arith)) a b
 
   pub change : Change p q Heap (Only at) None
   change =
-      let z = q-low heap-word (omega arith) (λ x. omega arith) (λ x. omega arith) in
-      change-then p r q Heap (Only at) None r-change lies (from-same p q z) (upto-same p q z (q-low size-word (omega arith) (λ x. omega arith) (λ x. omega arith))) q-areas
+      let z = q-low heap-word (omega arith) (spares-heap Channels) (λ x. omega arith) in
+      change-then p r q Heap (Only at) None r-change lies (from-same p q z) (upto-same p q z (q-low size-word (omega arith) (spares-size Channels) (λ x. omega arith))) q-areas
 
   pub jobs-same : JobsSame p q
   jobs-same = record {
-    fields = λ j f a b. q-low (slot Jobs j + f) (omega arith) (λ x. omega arith) (λ x. omega arith);
-    mask = q-low (mask-word Jobs) (omega arith) (λ x. omega arith) (λ x. omega arith);
-    last = q-low (last-word Jobs) (omega arith) (λ x. omega arith) (λ x. omega arith);
-    current = q-low current-word (omega arith) (λ x. omega arith) (λ x. omega arith);
+    fields = λ j f a b. q-low (slot Jobs j + f) (omega arith) (spares-past Channels (slot Jobs j + f) (omega arith)) (λ x. omega arith);
+    mask = members-same p q Jobs (λ j x. let l = holds-low Jobs j x in q-low j (omega arith) (spares-other Channels Jobs jobs-apart j x) (λ z. spares-last Jobs Channels (subst (Holds Jobs) z x)));
+    last = q-low (last-word Jobs) (omega arith) (spares-last Channels Jobs) (λ x. omega arith);
+    current = q-low current-word (omega arith) (spares-current Channels) (λ x. omega arith);
   }
 
   -- its block in the picture that is left

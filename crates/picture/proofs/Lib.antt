@@ -1,3 +1,4 @@
 -- Laws of the definitions of specs/.
 pub mod Records
 pub mod Numbers
+pub mod Members

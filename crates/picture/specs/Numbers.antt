@@ -3,10 +3,9 @@ use Prim.Native.Nat.{ℕ, _+_, _*_, _/_, _%_}
 use mathlib.Core.Bool.{Bool, _&&_, cond}
 use mathlib.Core.List.{List}
 use lib.Dec.{eqb}
-use Rattle.words.specs.Words.{word}
-use Rattle.words.specs.Bits.{lowest-clear}
-use Rattle.picture.specs.Layout.{mask-word, positions}
-use Rattle.picture.specs.Records.{number, used}
+use Rattle.masks.specs.Masks.{lowest-clear}
+use Rattle.picture.specs.Layout.{positions}
+use Rattle.picture.specs.Records.{number, members, used}
 use Rattle.picture.specs.declared.Table.{Table}
 use Rattle.picture.specs.declared.Table.the-variants.{Jobs, Channels}
 use Rattle.picture.specs.declared.JobFound.{JobFound}
@@ -37,6 +36,6 @@ job-at p n = cond (live p Jobs n) (job.At (position n)) job.Dead
 unfoldable pub channel-at : List ℕ → ℕ → ChannelFound
 channel-at p n = cond (live p Channels n) (channel.At (position n)) channel.Dead
 
--- the lowest clear bit of the table's mask: the free position, or the number of positions for none
+-- "the lowest clear bit of the mask": the free position, or the number of positions for none
 unfoldable pub free-position : List ℕ → Table → ℕ
-free-position p t = lowest-clear (positions t) (word p (mask-word t))
+free-position p t = lowest-clear (positions t) (members p t)

@@ -106,9 +106,16 @@ with-key p k v = with-field p Jobs k key-field v
 abbrev pub with-ending : List ℕ → ℕ → ℕ → List ℕ
 with-ending p k v = with-field p Channels k ending-field v
 
--- bit k of the mask: position k in use
+-- the set of a table's positions in use, and the picture with m as that set
+unfoldable pub members : List ℕ → Table → ℕ
+members p t = word p (mask-word t)
+
+unfoldable pub with-members : List ℕ → Table → ℕ → List ℕ
+with-members p t m = put p (mask-word t) m
+
+-- "bit k: position k in use"
 unfoldable pub used : List ℕ → Table → ℕ → Bool
-used p t k = ltb k (positions t) && bit (word p (mask-word t)) k
+used p t k = ltb k (positions t) && bit (members p t) k
 
 -- ready: priority at least 1 and timeout 0; active: priority at least 1
 unfoldable pub ready : List ℕ → ℕ → Bool

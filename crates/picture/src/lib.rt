@@ -1,11 +1,12 @@
 // The memory picture: where things stand in it, records, and numbers that name a job or a channel.
 use words::word;
 ghost use mathlib.Core.Path.{_≡_};
-ghost use Prim.Native.Nat.{_+_, _*_, _/_, _%_, _<_, _≤_};
+ghost use Prim.Native.Nat.{_+_, _*_, _/_, _%_, _^_, _<_, _≤_};
+ghost use lib.ListN.{length};
 ghost use Rattle.words.specs.Words.{word};
 ghost use Rattle.picture.specs.Layout.{positions, width, from, upto, last-word as lastWord, mask-word as maskWord, heap-base as heapBase, greatest-tag as greatestTag};
 ghost use Rattle.picture.specs.declared.Table.the-variants.{Jobs};
-ghost use Rattle.picture.specs.Records.{slot, field, used, ready, active};
+ghost use Rattle.picture.specs.Records.{slot, field, members, with-members as withMembers, used, ready, active};
 ghost use Rattle.picture.specs.Numbers.{tag-weight as tagWeight, tag, position, live, job-at as jobAt, channel-at as channelAt, free-position as freePosition, number-of as numberOf};
 
 // $FFFFFFFF: nobody, or timeout -1.
@@ -153,8 +154,16 @@ pub fn last_of(t: Table) -> usize
     }
 }
 
+// The longword at i, which lies within.
+pub fn word_at(p: &[u32], i: usize) -> u32
+    requires { ⌜ i < length (now p) ⌝ }
+    ensures { λ r. ⌜ r ≡ word (now (p .entry)) i ⌝ }
+{
+    p[i]
+}
+
 // The longword that holds the table's mask.
-pub fn mask_of(t: Table) -> usize
+fn mask_of(t: Table) -> usize
     ensures { λ r. ⌜ r ≡ maskWord t ⌝ }
 {
     match t {
@@ -182,6 +191,29 @@ pub fn field_of(p: &[u32], t: Table, k: usize, f: usize) -> u32
     word(p, slot_of(t, k) + f)
 }
 
+// The set of the table's positions in use.
+pub fn members_of(p: &[u32], t: Table) -> u64
+    ensures { λ r. ⌜ (r ≡ members (now (p .entry)) t) × (r < 2 ^ positions t) ⌝ }
+{
+    word(p, mask_of(t)) as u64
+}
+
+// The same, of a picture that has its tables: no index is tested.
+pub fn members_at(p: &[u32], t: Table) -> u64
+    requires { ⌜ heapBase ≤ length (now p) ⌝ }
+    ensures { λ r. ⌜ r ≡ members (now (p .entry)) t ⌝ }
+{
+    word_at(p, mask_of(t)) as u64
+}
+
+// Stores the set of the table's positions in use.
+pub fn put_members(p: &mut [u32], t: Table, set: u64)
+    requires { ⌜ set < 2 ^ positions t ⌝ }
+    ensures { λ _. ⌜ now (p .exit) ≡ withMembers (now (p .entry)) t set ⌝ }
+{
+    words::put(p, mask_of(t), set as u32);
+}
+
 // Position k is in use.
 pub fn is_used(p: &[u32], t: Table, k: usize) -> bool
     ensures { λ r. ⌜ r ≡ used (now (p .entry)) t k ⌝ }
@@ -189,7 +221,7 @@ pub fn is_used(p: &[u32], t: Table, k: usize) -> bool
     if positions_of(t) <= k {
         return false;
     }
-    words::is_set(word(p, mask_of(t)), k)
+    masks::is_member(members_of(p, t), k)
 }
 
 // The job at position k is ready.
@@ -267,7 +299,7 @@ pub fn channel_at(p: &[u32], n: ChannelNumber) -> ChannelFound
 pub fn free_position(p: &[u32], t: Table) -> usize
     ensures { λ r. ⌜ (r ≡ freePosition (now (p .entry)) t) × (r ≤ positions t) ⌝ }
 {
-    words::lowest_clear(word(p, mask_of(t)))
+    masks::lowest_clear(members_of(p, t))
 }
 
 // Where an area starts.

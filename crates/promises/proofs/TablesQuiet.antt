@@ -13,6 +13,7 @@ use Rattle.picture.specs.Records.{slot, priority, accumulated, used, ready, acc
 use Rattle.picture.specs.Numbers.{position, live}
 use Rattle.picture.specs.declared.Table.the-variants.{Jobs, Channels}
 use Rattle.picture.specs.declared.Area.the-variants.{Heap}
+use Rattle.picture.proofs.Members.{spares-past}
 use Rattle.headers.proofs.Header.{same-or-not}
 use Rattle.freeing.specs.Sweep.{swept}
 use Rattle.sound.specs.Sound.{sound}
@@ -65,7 +66,7 @@ closed-keeps p n s l i m =
     let B : TablesSame p (swept p (from p Heap) (upto p Heap) 0 (queue-of p (position n))) = giving-back-keeps-the-tables p Heap (queue-of p (position n)) (S .tiled Heap) (areas-lie-in-a-sound-picture p s Heap) in
     let w : heap-base ≤ length (swept p (from p Heap) (upto p Heap) 0 (queue-of p (position n))) = (let z = S .sizes .least in rw (B .long) (omega arith)) in
     let F : Forgotten (swept p (from p Heap) (upto p Heap) 0 (queue-of p (position n))) (closed p (position n)) Channels (position n) = forgotten-is (swept p (from p Heap) (upto p Heap) 0 (queue-of p (position n))) Channels (position n) (live-below p n l) w in
-    F .other (slot Jobs i + accumulated-field) (inl (omega arith)) (λ e. omega arith) ∙ B .words (slot Jobs i + accumulated-field) (omega arith)
+    F .other (slot Jobs i + accumulated-field) (inl (omega arith)) (spares-past Channels (slot Jobs i + accumulated-field) (omega arith)) ∙ B .words (slot Jobs i + accumulated-field) (omega arith)
 
 pub close-channel-is-quiet : (j : ℕ) → j < positions Jobs → (p d : List ℕ) → sound p ≡ true → Quiet j p (outcome close-channel p d .picture)
 close-channel-is-quiet j l p d s = close-channel-ways (λ (o : Outcome). Quiet j p (o .picture)) p d (λ k. nothing-is-quiet j p)

@@ -112,5 +112,5 @@ pub fn tag_given(p: &[u32], t: Table, k: usize) -> bool
     requires { ⌜ (heapBase ≤ length (now p)) × ((k < positions t) × (used (now p) t k ≡ true)) ⌝ }
     ensures { λ r. ⌜ r ≡ tagGiven (now (p .entry)) t k ⌝ }
 {
-    tag_at(p, t, k) <= tables::word_at(p, picture::last_of(t))
+    tag_at(p, t, k) <= picture::word_at(p, picture::last_of(t))
 }

@@ -9,8 +9,8 @@ use native.Mathlib.Omega.{arith}
 use lib.ListN.{length}
 use lib.Dec.{leb, eqb}
 use Rattle.words.specs.Words.{word}
-use Rattle.picture.specs.Layout.{nobody, size-word, current-word, last-word, heap-word, zero-word, heap-base, mask-word, positions, width, first-record, from, upto}
-use Rattle.picture.specs.Records.{slot, field, number, owner, base, priority, accumulated, timeout, waited-for, ending, used, ready, base-field, number-field, owner-field, accumulated-field, ending-field, priority-field, timeout-field, wait-field}
+use Rattle.picture.specs.Layout.{nobody, size-word, current-word, last-word, heap-word, zero-word, heap-base, positions, width, first-record, from, upto}
+use Rattle.picture.specs.Records.{slot, field, number, owner, base, priority, accumulated, timeout, waited-for, ending, used, ready, base-field, number-field, owner-field, accumulated-field, ending-field, priority-field, timeout-field, wait-field, members}
 use Rattle.picture.specs.Numbers.{tag, position, live}
 use Rattle.picture.proofs.Records.{used-below}
 use Rattle.picture.specs.declared.Table.{Table}
@@ -20,6 +20,7 @@ use Rattle.picture.specs.declared.Area.the-variants.{Heap, Transient}
 use Rattle.matching.specs.Match.{area-of}
 use Rattle.matching.proofs.Matched.{Matched}
 use Rattle.picture.specs.Layout.{greatest-priority, hold, greatest-timeout}
+use Rattle.picture.proofs.Members.{Holds, holds-low, spares-current, members-same}
 use Rattle.facts.proofs.Sound.{Sizes, Waits, Entries, Jobs-fine, Channels-fine, Tiled, Current, Sound}
 use Rattle.facts.proofs.Same.{Lives, used-same, live-same, EntriesSame, entries-same, AreaSame, blocks-same, kind-same, holder-same, tiled-same, MatchSame, matched-same}
 use Rattle.facts.proofs.Ages.{Ages, ages-same}
@@ -54,9 +55,8 @@ abbrev pub Alike : List ℕ → List ℕ → ℕ → Type 0
 Alike p q k = (f : ℕ) → f < width Jobs → field q Jobs k f ≡ field p Jobs k f
 
 module _ (p q : List ℕ) (s : Steady p q) where
-  mask : (t : Table) → word q (mask-word t) ≡ word p (mask-word t)
-  mask Jobs = s .before (mask-word Jobs) (omega arith) (λ e. omega arith)
-  mask Channels = s .before (mask-word Channels) (omega arith) (λ e. omega arith)
+  mask : (t : Table) → members q t ≡ members p t
+  mask t = members-same p q t (λ j h. s .before j (holds-low t j h) (λ e. spares-current t (subst (Holds t) e h)))
 
   last : (t : Table) → word q (last-word t) ≡ word p (last-word t)
   last Jobs = s .before (last-word Jobs) (omega arith) (λ e. omega arith)

@@ -3,19 +3,11 @@ use picture::Table;
 ghost use mathlib.Core.Path.{_≡_};
 ghost use Prim.Native.Nat.{_<_, _≤_};
 ghost use lib.ListN.{length};
-ghost use Rattle.words.specs.Words.{word, put};
+ghost use Rattle.words.specs.Words.{put};
 ghost use Rattle.picture.specs.Layout.{positions, width, heap-base as heapBase};
 ghost use Rattle.picture.specs.Records.{field, used, ready};
 ghost use Rattle.picture.specs.Numbers.{live};
 ghost use Rattle.picture.specs.declared.Table.the-variants.{Jobs};
-
-// The longword at i, which lies within.
-pub fn word_at(p: &[u32], i: usize) -> u32
-    requires { ⌜ i < length (now p) ⌝ }
-    ensures { λ r. ⌜ r ≡ word (now (p .entry)) i ⌝ }
-{
-    p[i]
-}
 
 // Stores v at i, which lies within.
 pub fn put_at(p: &mut [u32], i: usize, v: u32)
@@ -30,7 +22,7 @@ pub fn field_of(p: &[u32], t: Table, k: usize, f: usize) -> u32
     requires { ⌜ (heapBase ≤ length (now p)) × ((k < positions t) × (f < width t)) ⌝ }
     ensures { λ r. ⌜ r ≡ field (now (p .entry)) t k f ⌝ }
 {
-    word_at(p, picture::slot_of(t, k) + f)
+    picture::word_at(p, picture::slot_of(t, k) + f)
 }
 
 // Position k is in use.
@@ -41,7 +33,7 @@ pub fn is_used(p: &[u32], t: Table, k: usize) -> bool
     if picture::positions_of(t) <= k {
         return false;
     }
-    words::is_set(word_at(p, picture::mask_of(t)), k)
+    masks::is_member(picture::members_at(p, t), k)
 }
 
 // The number n names a live entry of the table.

@@ -1,5 +1,4 @@
 -- Laws of the definitions of specs/.
-pub mod Mask
 pub mod Climb
 pub mod Owners
 pub mod Members

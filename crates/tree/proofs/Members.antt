@@ -20,7 +20,7 @@ use Rattle.picture.proofs.Records.{used-below}
 use Rattle.picture.proofs.Numbers.{live-is}
 use Rattle.tree.specs.Tree.{climbs, in-tree, tree}
 use Rattle.tree.specs.Under.{Under}
-use Rattle.tree.proofs.Mask.{mask-bit}
+use Rattle.masks.proofs.Masks.{mask-bit}
 use Rattle.tree.proofs.Climb.{climbs-here, climbs-ends, climbs-stops, climbs-up}
 use Rattle.tree.proofs.Owners.{Owners, nobody-is-no-job}
 

@@ -1,4 +1,3 @@
 -- The definitions that the contracts cite.
-pub mod Mask
 pub mod Under
 pub mod Tree

@@ -1,25 +1,13 @@
-// The tree of a job: the job itself and each job whose owner is in the tree, as a mask of positions.
+// The tree of a job: the job itself and each job whose owner is in the tree, as a set of positions.
 use picture::JOBS;
 use picture::Table;
 use words::word;
 ghost use mathlib.Core.Path.{_≡_};
-ghost use mathlib.Core.Bool.{cond};
-ghost use Prim.Native.Nat.{_+_, _^_, _<_};
+ghost use Prim.Native.Nat.{_<_};
 ghost use Rattle.picture.specs.Layout.{positions};
 ghost use Rattle.picture.specs.Numbers.{tag-weight as tagWeight};
 ghost use Rattle.picture.specs.declared.Table.the-variants.{Jobs};
 ghost use Rattle.tree.specs.Tree.{climbs, tree, in-tree as inTree};
-
-// A mask with bit k, which is above its highest, set or clear.
-pub fn with_bit(mask: u32, k: usize, set: bool) -> u32
-    requires { ⌜ (k < 32) × (mask < 2 ^ k) ⌝ }
-    ensures { λ r. ⌜ r ≡ mask + cond set (2 ^ k) 0 ⌝ }
-{
-    if set {
-        return mask + (1 << k);
-    }
-    mask
-}
 
 // From position k one reaches position t by at most as many owners as there are positions.
 pub fn climbs_to(p: &[u32], t: usize, k: usize) -> bool
@@ -57,13 +45,13 @@ pub fn is_in_tree(p: &[u32], t: usize, k: usize) -> bool
 }
 
 // The positions of the tree of the job at position t.
-pub fn tree_of(p: &[u32], t: usize) -> u32
+pub fn tree_of(p: &[u32], t: usize) -> u64
     ensures { λ r. ⌜ r ≡ tree (now (p .entry)) t ⌝ }
 {
-    let mut mask: u32 = 0;
+    let mut set: u64 = 0;
     for k in 0..JOBS {
         let member = is_in_tree(p, t, k);
-        mask = with_bit(mask, k, member);
+        set = masks::with_passing(set, k, member);
     }
-    mask
+    set
 }

@@ -1,7 +1,7 @@
 // The test of an area, block by block in one walk, of a picture that has its tables.
 use matching::Walked;
 use picture::Table;
-use tables::word_at;
+use picture::word_at;
 ghost use mathlib.Core.Path.{_≡_};
 ghost use Prim.Native.Nat.{_+_, _<_, _≤_};
 ghost use lib.ListN.{length};

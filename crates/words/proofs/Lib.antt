@@ -1,6 +1,5 @@
 -- Laws of the definitions of specs/.
 pub mod Tests
 pub mod Words
-pub mod Bits
 pub mod Signed
 pub mod Each

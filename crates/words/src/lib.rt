@@ -1,10 +1,10 @@
-// Longwords of a lent slice, the bits of a mask, and signed numbers in registers.
+// Longwords of a lent slice, their bits, and signed numbers in registers.
 ghost use mathlib.Core.Path.{_≡_};
 ghost use Prim.Native.Nat.{_-_, _%_, _<_, _≤_};
 ghost use mir.Syntax.{w16, w32};
 ghost use mir.Val.{toZ, ofZ};
 ghost use Rattle.words.specs.Words.{word, put, clear, low-word as lowWord};
-ghost use Rattle.words.specs.Bits.{bit, lowest-clear as lowestClear};
+ghost use Rattle.words.specs.Bits.{bit};
 
 // The longword at i, 0 past the end.
 pub fn word(p: &[u32], i: usize) -> u32
@@ -36,19 +36,12 @@ pub fn clear(p: &mut [u32], from: usize, upto: usize)
     }
 }
 
-// Bit k of a mask is set.
-pub fn is_set(mask: u32, k: usize) -> bool
+// Bit k of a longword is set.
+pub fn is_set(longword: u32, k: usize) -> bool
     requires { ⌜ k < 32 ⌝ }
-    ensures { λ r. ⌜ r ≡ bit mask k ⌝ }
+    ensures { λ r. ⌜ r ≡ bit longword k ⌝ }
 {
-    (mask >> k) % 2 == 1
-}
-
-// The lowest clear bit of a mask, 32 where all are set.
-pub fn lowest_clear(mask: u32) -> usize
-    ensures { λ r. ⌜ (r ≡ lowestClear 32 mask) × (r ≤ 32) ⌝ }
-{
-    u32::trailing_zeros(!mask) as usize
+    (longword >> k) % 2 == 1
 }
 
 // The low word of a register, read as signed.

@@ -4,7 +4,7 @@ use Rattle.areas.proofs.free_blank.Statement.{statement}
 use Rattle.areas.proofs.free_blank.Tie as tie
 use Rattle.areas.proofs.free_blank.Reads as reads
 use Rattle.areas.proofs.free_blank.Lts as lts
-use Rattle.tables.proofs.word_at.Reads as word-at-reads
+use Rattle.picture.proofs.word_at.Reads as word-at-reads
 
 add-word-at : tie.Need-add-word-at
 add-word-at c = search needs

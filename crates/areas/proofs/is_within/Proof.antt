@@ -4,7 +4,7 @@ use Rattle.areas.proofs.is_within.Statement.{statement}
 use Rattle.areas.proofs.is_within.Tie as tie
 use Rattle.areas.proofs.is_within.Reads as reads
 use Rattle.areas.proofs.is_within.Lts as lts
-use Rattle.tables.proofs.word_at.Reads as word-at-reads
+use Rattle.picture.proofs.word_at.Reads as word-at-reads
 
 word-at-requires : tie.Need-word-at-requires
 word-at-requires c κs = search needs

@@ -1,29 +1,26 @@
 use mathlib.Core.Path.{_≡_}
 use Prim.Native.Nat.{_+_, _-_}
 use native.Mathlib.Omega.{arith}
-use Rattle.picture.proofs.Records.{positions-within}
+use Rattle.picture.proofs.Members.{positions-within}
+use Rattle.masks.proofs.Masks.{without-bit-le}
 use Rattle.channels.specs.Effects.{forgotten}
 use borrow.Author.Needs.{needs}
 use Rattle.channels.proofs.forget.Statement.{statement}
 use Rattle.channels.proofs.forget.Tie as tie
 use Rattle.channels.proofs.forget.Reads as reads
 use Rattle.channels.proofs.forget.Lts as lts
-use Rattle.masks.proofs.clear_bit.Reads as clear-bit-reads
-use Rattle.picture.proofs.mask_of.Reads as mask-of-reads
+use Rattle.masks.proofs.without_member.Reads as without-member-reads
+use Rattle.picture.proofs.members_of.Reads as members-of-reads
+use Rattle.picture.proofs.put_members.Reads as put-members-reads
 use Rattle.picture.proofs.slot_of.Reads as slot-of-reads
 use Rattle.picture.proofs.width_of.Reads as width-of-reads
 use Rattle.words.proofs.clear.Reads as clear-reads
-use Rattle.words.proofs.put.Reads as put-reads
-use Rattle.words.proofs.word.Reads as word-reads
 
-mask-of-requires : tie.Need-mask-of-requires
-mask-of-requires c κs = search needs
+members-of-requires : tie.Need-members-of-requires
+members-of-requires c κs = search needs
 
-word-requires : tie.Need-word-requires
-word-requires c κs = search needs
-
-clear-bit-requires : tie.Need-clear-bit-requires
-clear-bit-requires c = omega (arith, c .before .before .before .before .pre, positions-within (c .before .before .before .before .args .t))
+without-member-requires : tie.Need-without-member-requires
+without-member-requires c κs = let s = c .before .before .before in omega (arith, s .pre, positions-within (s .args .t))
 
 slot-of-requires : tie.Need-slot-of-requires
 slot-of-requires c κs = search needs
@@ -37,8 +34,11 @@ add-clear c = search needs
 clear-requires : tie.Need-clear-requires
 clear-requires c κs = search needs
 
-put-requires : tie.Need-put-requires
-put-requires c κs = search needs
+put-members-requires : tie.Need-put-members-requires
+put-members-requires c κs =
+    let b = c .before .before .before .before .before .before .before in
+    let l = without-bit-le (b .before .members-of .result) (b .before .before .before .before .args .k) in
+    rw (b .without-member .ensures) (omega (arith, b .before .members-of .ensures .1))
 
 same-length : tie.Need-same-length
 same-length c = search needs
@@ -47,19 +47,18 @@ returns : tie.Need-returns
 unfolding forgotten
 returns c = let d = c .before .before in let e = d .before .before .before .before in let w = e .before in let s = w .before .before in let b = s .before in
     let z : s .slot-of .result + w .width-of .result - s .slot-of .result ≡ w .width-of .result = omega arith in
-    rw (d .put .ensures, e .clear .ensures, z, w .width-of .ensures, s .slot-of .ensures .0, b .clear-bit .ensures, b .before .word .ensures, b .before .before .before .mask-of .ensures)
+    rw (d .put-members .ensures, e .clear .ensures, z, w .width-of .ensures, s .slot-of .ensures .0, b .without-member .ensures, b .before .members-of .ensures .0)
 
 pub forget-spec : {M : Type 1} → statement M
 forget-spec =
     tie.close
     (tie.spec
-    mask-of-requires
-    word-requires
-    clear-bit-requires
+    members-of-requires
+    without-member-requires
     slot-of-requires
     width-of-requires
     add-clear
     clear-requires
-    put-requires
+    put-members-requires
     same-length
     returns)

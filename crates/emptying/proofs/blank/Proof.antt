@@ -1,6 +1,6 @@
 use native.Mathlib.Omega.{arith}
 use mathlib.Core.Path.{sym, _∙_}
-use Rattle.picture.proofs.Records.{positions-within}
+use Rattle.picture.proofs.Members.{positions-within}
 use Rattle.emptying.proofs.Steps.{back}
 use Rattle.emptying.specs.Taken.{blanked}
 use borrow.Author.Needs.{needs}
@@ -11,10 +11,10 @@ use Rattle.emptying.proofs.blank.Lts as lts
 use Rattle.picture.proofs.slot_of.Reads as slot-of-reads
 use Rattle.picture.proofs.width_of.Reads as width-of-reads
 use Rattle.words.proofs.clear.Reads as clear-reads
-use Rattle.words.proofs.is_set.Reads as is-set-reads
+use Rattle.masks.proofs.is_member.Reads as is-member-reads
 
-is-set-requires : tie.Need-is-set-requires
-is-set-requires c κs = let l = positions-within (c .before .args .t) in omega arith
+is-member-requires : tie.Need-is-member-requires
+is-member-requires c κs = let l = positions-within (c .before .args .t) in omega arith
 
 slot-of-requires : tie.Need-slot-of-requires
 slot-of-requires c κs = search needs
@@ -37,17 +37,17 @@ returns c = let l = c .before .before in
     let w = l .before in
     let s = w .before .before in
     let h = s .before in
-    rw (l .clear .ensures, w .width-of .ensures, s .slot-of .ensures .0, back _ _, sym (h .before .is-set .ensures) ∙ h .if1 .taken)
+    rw (l .clear .ensures, w .width-of .ensures, s .slot-of .ensures .0, back _ _, sym (h .before .is-member .ensures) ∙ h .if1 .taken)
 
 returns-2 : tie.Need-returns-2
 unfolding blanked
-returns-2 c = rw (sym (c .before .is-set .ensures) ∙ c .if1 .left)
+returns-2 c = rw (sym (c .before .is-member .ensures) ∙ c .if1 .left)
 
 pub blank-spec : {M : Type 1} → statement M
 blank-spec =
     tie.close
     (tie.spec
-    is-set-requires
+    is-member-requires
     slot-of-requires
     width-of-requires
     add-clear

@@ -11,10 +11,10 @@ use Rattle.emptying.proofs.empty_table.Tie as tie
 use Rattle.emptying.proofs.empty_table.Reads as reads
 use Rattle.emptying.proofs.empty_table.Lts as lts
 use Rattle.emptying.proofs.blank.Reads as blank-reads
-use Rattle.picture.proofs.mask_of.Reads as mask-of-reads
+use Rattle.masks.proofs.difference.Reads as difference-reads
+use Rattle.picture.proofs.members_of.Reads as members-of-reads
 use Rattle.picture.proofs.positions_of.Reads as positions-of-reads
-use Rattle.words.proofs.put.Reads as put-reads
-use Rattle.words.proofs.word.Reads as word-reads
+use Rattle.picture.proofs.put_members.Reads as put-members-reads
 
 abbrev Inv-loop : tie.InvT-loop
 Inv-loop p₀ t mask k₀ k-end p k = (k ≤ k-end) × ((length p ≡ length p₀) × (p ≡ each (blanked t mask) k p₀))
@@ -43,27 +43,28 @@ loop-again c = let w = c .before .before in
     let l = w .before .before .before .loop in
     (omega arith, (ap length (w .blank .ensures) ∙ length-blanked _ _ _ _ ∙ l .inv .1 .0, w .blank .ensures ∙ rw (l .inv .1 .1, each-more _ _ _)))
 
-mask-of-requires : tie.Need-mask-of-requires Inv-loop μ-loop
-mask-of-requires c κs = search needs
+members-of-requires : tie.Need-members-of-requires Inv-loop μ-loop
+members-of-requires c κs = search needs
 
-word-requires : tie.Need-word-requires Inv-loop μ-loop
-word-requires c κs = search needs
+difference-requires : tie.Need-difference-requires Inv-loop μ-loop
+difference-requires c κs = search needs
 
-put-requires : tie.Need-put-requires Inv-loop μ-loop
-put-requires c κs = search needs
+put-members-requires : tie.Need-put-members-requires Inv-loop μ-loop
+put-members-requires c κs = omega (arith, c .difference .ensures .1, c .before .before .members-of .ensures .1)
 
 same-length : tie.Need-same-length Inv-loop μ-loop
 same-length c = search needs
 
 returns : tie.Need-returns Inv-loop μ-loop
 unfolding emptied
-returns c = let u = c .before .before in
-    let w = u .before .before in
-    let m = w .before .before in
-    let l = m .before in
+returns c =
+    let u = c .before .before in
+    let d = u .before in
+    let m = d .before .before in
+    let l = m .before .before in
     let a = l .before in
     let e : a .loop .k ≡ a .before .positions-of .result = omega arith in
-    rw (u .put .ensures, w .word .ensures, m .mask-of .ensures, a .loop .inv .1 .1, e, a .before .positions-of .ensures)
+    rw (u .put-members .ensures, d .difference .ensures .0, m .members-of .ensures .0, a .loop .inv .1 .1, e, a .before .positions-of .ensures)
 
 pub empty-table-spec : {M : Type 1} → statement M
 empty-table-spec =
@@ -77,8 +78,8 @@ empty-table-spec =
     add-k
     loop-less
     loop-again
-    mask-of-requires
-    word-requires
-    put-requires
+    members-of-requires
+    difference-requires
+    put-members-requires
     same-length
     returns)

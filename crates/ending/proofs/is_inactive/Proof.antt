@@ -16,7 +16,7 @@ use Rattle.ending.proofs.is_inactive.Tie as tie
 use Rattle.ending.proofs.is_inactive.Reads as reads
 use Rattle.ending.proofs.is_inactive.Lts as lts
 use Rattle.picture.proofs.is_active.Reads as is-active-reads
-use Rattle.words.proofs.is_set.Reads as is-set-reads
+use Rattle.masks.proofs.is_member.Reads as is-member-reads
 
 abbrev Inv-loop : tie.InvT-loop
 Inv-loop p mask k₀ k = (k ≤ positions Jobs) × (every (at-rest p mask) k ≡ true)
@@ -27,8 +27,8 @@ abbrev μ-loop : tie.MeasureT-loop
 loop-holds : tie.Need-loop-holds Inv-loop μ-loop
 loop-holds c = (omega arith, refl)
 
-is-set-requires : tie.Need-is-set-requires Inv-loop μ-loop
-is-set-requires c κs = search needs
+is-member-requires : tie.Need-is-member-requires Inv-loop μ-loop
+is-member-requires c κs = search needs
 
 is-active-requires : tie.Need-is-active-requires Inv-loop μ-loop
 is-active-requires c κs = search needs
@@ -38,7 +38,7 @@ unfolding inactive at-rest
 returns c = let a = c .before in
     let l = a .before .before .before in
     let s = l .before .before .args in
-    sym (every-not (at-rest (s .p .now) (s .mask)) (positions Jobs) (l .loop .k) (a .before .before .loop-test .taken) (ap not (rw (a .is-active .ensures, a .before .is-set .ensures) at (c .if1 .taken))))
+    sym (every-not (at-rest (s .p .now) (s .mask)) (positions Jobs) (l .loop .k) (a .before .before .loop-test .taken) (ap not (rw (a .is-active .ensures, a .before .is-member .ensures) at (c .if1 .taken))))
 
 add-k : tie.Need-add-k Inv-loop μ-loop
 add-k c = search needs
@@ -51,7 +51,7 @@ unfolding at-rest
 loop-again c = let a = c .before in
     let l = a .before .before .before in
     let s = l .before .before .args in
-    (omega arith, every-next (at-rest (s .p .now) (s .mask)) (l .loop .k) (l .loop .inv .1) (ap not (rw (a .is-active .ensures, a .before .is-set .ensures) at (c .if1 .left))))
+    (omega arith, every-next (at-rest (s .p .now) (s .mask)) (l .loop .k) (l .loop .inv .1) (ap not (rw (a .is-active .ensures, a .before .is-member .ensures) at (c .if1 .left))))
 
 returns-2 : tie.Need-returns-2 Inv-loop μ-loop
 unfolding inactive
@@ -64,7 +64,7 @@ is-inactive-spec =
     Inv-loop
     μ-loop
     loop-holds
-    is-set-requires
+    is-member-requires
     is-active-requires
     returns
     add-k

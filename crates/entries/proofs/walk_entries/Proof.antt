@@ -3,7 +3,8 @@ use lib.ListN.{getD}
 use Rattle.entries.proofs.Passed.{Passed, passed-none, passed-blank, passed-live, not-blank, not-live, not-once, passed-all}
 use Rattle.matching.specs.Match.{first}
 use Rattle.picture.specs.Layout.{positions}
-use Rattle.picture.proofs.Records.{shared, positions-within}
+use Rattle.picture.proofs.Records.{shared}
+use Rattle.picture.proofs.Members.{positions-within}
 use borrow.Author.Tests.{not-true, not-false}
 use mathlib.Core.Path.{_≡_, sym, _∙_}
 use Prim.Native.Nat.{_-_, _%_, _≤_}

@@ -8,7 +8,7 @@ use Rattle.matching.proofs.is_meeting.Tie as tie
 use Rattle.matching.proofs.is_meeting.Reads as reads
 use Rattle.matching.proofs.is_meeting.Lts as lts
 use Rattle.tables.proofs.field_of.Reads as field-of-reads
-use Rattle.tables.proofs.word_at.Reads as word-at-reads
+use Rattle.picture.proofs.word_at.Reads as word-at-reads
 
 field-of-requires : tie.Need-field-of-requires
 field-of-requires c κs = let s = c .before in (s .pre .0, (s .pre .1 .0, shared (s .args .t) _ (omega arith)))

@@ -1,29 +1,29 @@
-use Rattle.picture.proofs.Records.{positions-same}
+use mathlib.Core.Path.{sym, _∙_}
+use Rattle.picture.proofs.Members.{positions-within}
 use Rattle.picture.specs.Numbers.{free-position}
-use Prim.Native.Nat.{ℕ, _≤_}
-use mathlib.Core.Path.{sym, _∙_, ap, subst}
+use Rattle.masks.proofs.Lowest.{Lowest, lowest-clear-is, lowest-clear-within}
 use borrow.Author.Needs.{needs}
 use Rattle.picture.proofs.free_position.Statement.{statement}
 use Rattle.picture.proofs.free_position.Tie as tie
 use Rattle.picture.proofs.free_position.Reads as reads
 use Rattle.picture.proofs.free_position.Lts as lts
-use Rattle.picture.proofs.mask_of.Reads as mask-of-reads
-use Rattle.words.proofs.lowest_clear.Reads as lowest-clear-reads
-use Rattle.words.proofs.word.Reads as word-reads
+use Rattle.masks.proofs.lowest_clear.Reads as lowest-clear-reads
+use Rattle.picture.proofs.members_of.Reads as members-of-reads
 
-mask-of-requires : tie.Need-mask-of-requires
-mask-of-requires c κs = search needs
-
-word-requires : tie.Need-word-requires
-word-requires c κs = search needs
+members-of-requires : tie.Need-members-of-requires
+members-of-requires c κs = search needs
 
 lowest-clear-requires : tie.Need-lowest-clear-requires
 lowest-clear-requires c κs = search needs
 
 returns : tie.Need-returns
 unfolding free-position
-returns c = (rw (c .lowest-clear .ensures .0, c .before .word .ensures, c .before .before .mask-of .ensures, positions-same (c .before .before .before .before .args .t)), subst (λ (n : ℕ). c .lowest-clear .result ≤ n) (sym (positions-same (c .before .before .before .before .args .t))) (c .lowest-clear .ensures .1))
+returns c =
+    let s = c .before .before .before in
+    let m = c .before .members-of .ensures in
+    let e = rw (m .0) at (c .lowest-clear .ensures ∙ lowest-clear-within _ _ _ (positions-within (s .args .t)) (m .1)) in
+    (e, rw e (lowest-clear-is _ _ .within))
 
 pub free-position-spec : {M : Type 1} → statement M
 free-position-spec =
-    tie.close (tie.spec mask-of-requires word-requires lowest-clear-requires returns)
+    tie.close (tie.spec members-of-requires lowest-clear-requires returns)

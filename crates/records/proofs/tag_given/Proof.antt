@@ -7,7 +7,7 @@ use Rattle.records.proofs.tag_given.Reads as reads
 use Rattle.records.proofs.tag_given.Lts as lts
 use Rattle.picture.proofs.last_of.Reads as last-of-reads
 use Rattle.records.proofs.tag_at.Reads as tag-at-reads
-use Rattle.tables.proofs.word_at.Reads as word-at-reads
+use Rattle.picture.proofs.word_at.Reads as word-at-reads
 
 tag-at-requires : tie.Need-tag-at-requires
 tag-at-requires c κs = search needs

@@ -4,7 +4,7 @@ use Rattle.tables.proofs.field_of.Tie as tie
 use Rattle.tables.proofs.field_of.Reads as reads
 use Rattle.tables.proofs.field_of.Lts as lts
 use Rattle.picture.proofs.slot_of.Reads as slot-of-reads
-use Rattle.tables.proofs.word_at.Reads as word-at-reads
+use Rattle.picture.proofs.word_at.Reads as word-at-reads
 
 slot-of-requires : tie.Need-slot-of-requires
 slot-of-requires c κs = search needs

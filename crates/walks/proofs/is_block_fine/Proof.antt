@@ -10,7 +10,7 @@ use Rattle.walks.proofs.is_block_fine.Reads as reads
 use Rattle.walks.proofs.is_block_fine.Lts as lts
 use Rattle.areas.proofs.is_within.Reads as is-within-reads
 use Rattle.areas.proofs.length_whole.Reads as length-whole-reads
-use Rattle.tables.proofs.word_at.Reads as word-at-reads
+use Rattle.picture.proofs.word_at.Reads as word-at-reads
 use Rattle.walks.proofs.is_free_fine.Reads as is-free-fine-reads
 use Rattle.walks.proofs.is_held_fine.Reads as is-held-fine-reads
 

@@ -11,7 +11,7 @@ use Rattle.areas.proofs.queue_room.Reads as queue-room-reads
 use Rattle.matching.proofs.is_met.Reads as is-met-reads
 use Rattle.matching.proofs.is_noticed.Reads as is-noticed-reads
 use Rattle.tables.proofs.is_live.Reads as is-live-reads
-use Rattle.tables.proofs.word_at.Reads as word-at-reads
+use Rattle.picture.proofs.word_at.Reads as word-at-reads
 
 add-word-at : tie.Need-add-word-at
 add-word-at c = search needs

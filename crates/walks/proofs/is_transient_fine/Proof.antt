@@ -9,7 +9,7 @@ use Rattle.walks.proofs.is_transient_fine.Reads as reads
 use Rattle.walks.proofs.is_transient_fine.Lts as lts
 use Rattle.matching.proofs.is_met.Reads as is-met-reads
 use Rattle.matching.proofs.is_noticed.Reads as is-noticed-reads
-use Rattle.tables.proofs.word_at.Reads as word-at-reads
+use Rattle.picture.proofs.word_at.Reads as word-at-reads
 
 add-word-at : tie.Need-add-word-at
 add-word-at c = search needs

@@ -11,7 +11,7 @@ use Rattle.walks.proofs.walk_blocks.Reads as reads
 use Rattle.walks.proofs.walk_blocks.Lts as lts
 use Rattle.blocks.proofs.kind_of.Reads as kind-of-reads
 use Rattle.matching.proofs.one_of.Reads as one-of-reads
-use Rattle.tables.proofs.word_at.Reads as word-at-reads
+use Rattle.picture.proofs.word_at.Reads as word-at-reads
 use Rattle.walks.proofs.is_block_fine.Reads as is-block-fine-reads
 
 abbrev Inv-loop : tie.InvT-loop

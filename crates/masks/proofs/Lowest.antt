@@ -1,4 +1,4 @@
--- Laws of specs/Bits.antt: the trailing zeros of a mask's complement are its lowest clear bit.
+-- The lowest position that isn't a member: the trailing zeros of the inverted mask.
 use Prim.Native.Nat.{ℕ, zero, suc, _+_, _-_, _*_, _/_, _%_, _^_, _≤_, _<_}
 use mathlib.Core.Path.{_≡_, refl, sym, ap, _∙_}
 use mathlib.Core.Bool.{Bool, true, false, cond}
@@ -8,7 +8,8 @@ use lib.Pow.{pow-pos}
 use native.Mathlib.Nat.{pow-suc, div-div-eq-div-mul, mul-comm, not-suc-le-zero, le-of-suc-le-suc}
 use native.Mathlib.Omega.{arith}
 use borrow.Author.Tests.{eqb-true, eqb-false, eq-eqb, ne-eqb}
-use Rattle.words.specs.Bits.{bit, lowest-clear}
+use Rattle.words.specs.Bits.{bit}
+use Rattle.masks.specs.Masks.{lowest-clear}
 
 -- the zeros at the low end of the complement are the ones at the low end of m
 pub complement : (k m : ℕ) → m < 2 ^ k → trailingZeros k ((2 ^ k - 1) - m) ≡ lowest-clear k m
@@ -61,3 +62,14 @@ lowest-clear-is (suc n) m = go (eqb (m % 2) 0) refl (lowest-clear-is n (m / 2))
           used = elim [ zero ↦ λ l. low-bit m ∙ eq-eqb (m % 2) 1 o | suc j ↦ λ l. half-bit m j ∙ r .used j (le-of-suc-le-suc l) ];
           free = λ l. half-bit m (lowest-clear n (m / 2)) ∙ r .free (le-of-suc-le-suc l);
         }
+
+-- a mask of n bits has its lowest clear bit among n, or is followed by a clear one
+pub lowest-clear-within : (n m : ℕ) (w : ℕ) → n ≤ w → m < 2 ^ n → lowest-clear w m ≡ lowest-clear n m
+unfolding lowest-clear
+lowest-clear-within zero m zero l h = refl
+lowest-clear-within zero m (suc w) l h = let z : m % 2 ≡ 0 = omega arith in rw z
+lowest-clear-within (suc n) m zero l h = absurd (omega arith)
+lowest-clear-within (suc n) m (suc w) l h =
+    let q : 2 ^ suc n ≡ 2 ^ n * 2 = pow-suc 2 n in
+    let ih = lowest-clear-within n (m / 2) w (omega arith) (omega arith) in
+    ap (λ (x : ℕ). cond (eqb (m % 2) 0) 0 (suc x)) ih
