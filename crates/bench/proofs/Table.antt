@@ -7,7 +7,7 @@ use lib.IntN.{ℤ}
 use Rattle.words.specs.Words.{clear}
 use Rattle.masks.specs.Masks.{lowest-clear}
 use Rattle.picture.specs.Keys.{done, out-of-memory, bad-name, bad-parameter}
-use Rattle.picture.specs.Records.{used, ready}
+use Rattle.picture.specs.Records.{members, with-members, used, ready}
 use Rattle.picture.specs.Numbers.{live, job-at, free-position}
 use Rattle.blocks.specs.Walk.{good, next, starts, starts-within}
 use Rattle.matching.specs.Match.{claims, pair, claimed, own, housed}
