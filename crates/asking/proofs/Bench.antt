@@ -5,8 +5,8 @@ use mathlib.Core.List.{List, [], _∷_}
 use lib.ListN.{replicate}
 use lib.Seq.{sets}
 use Rattle.picture.specs.Layout.{nobody}
-use Rattle.picture.specs.Records.{used}
-use Rattle.masks.specs.Masks.{mask}
+use Rattle.picture.specs.Records.{members, used}
+use Rattle.masks.specs.Masks.{with-bit, mask}
 use Rattle.tree.specs.Tree.{climbs, in-tree, tree}
 use Rattle.asking.specs.Next.{nearer, next-below, next-member}
 

@@ -5,7 +5,6 @@ use mathlib.Core.Path.{_≡_, refl}
 use mathlib.Core.List.{List, [], _∷_}
 use lib.IntN.{ℤ}
 use Rattle.words.specs.Words.{clear}
-use Rattle.masks.specs.Masks.{lowest-clear}
 use Rattle.picture.specs.Keys.{done, out-of-memory, bad-name, bad-parameter}
 use Rattle.picture.specs.Records.{members, with-members, used, ready}
 use Rattle.picture.specs.Numbers.{live, job-at, free-position}
@@ -18,7 +17,7 @@ use Rattle.sound.specs.Sound.{sound}
 use Rattle.headers.specs.Header.{header}
 use Rattle.placing.specs.Place.{fits, chosen, split, placed, answer, longer, longest}
 use Rattle.fresh.specs.Fresh.{fresh}
-use Rattle.masks.specs.Masks.{with-bit}
+use Rattle.masks.specs.Masks.{with-bit, lowest-clear}
 use Rattle.calls.specs.Outcome.{Outcome}
 use Rattle.calls.specs.Call.{outcome}
 use Rattle.calls.specs.Registers.{D1, A0, meant}

@@ -228,7 +228,7 @@ module _ (p : List ℕ) (n : ℕ) (s : sound p ≡ true) (l : live p Channels n 
 
   pub closed-sound : sound (closed p (position n)) ≡ true
   closed-sound = sound-again q (record {
-    sizes = sizes-kept p q (F .long ∙ block-tables .long) (low size-word (omega arith) (spares-size Channels)) (low heap-word (omega arith) (spares-heap Channels)) (low zero-word (omega arith) (λ e. omega arith))
+    sizes = sizes-kept p q (F .long ∙ block-tables .long) (low size-word (omega arith) (spares-size Channels)) (low heap-word (omega arith) (spares-heap Channels)) (low zero-word (omega arith) (spares-zero Channels))
         (elim [ Jobs ↦ rw (jobs-same .last) (S .sizes .last Jobs) | Channels ↦ rw (low (last-word Channels) (omega arith) (spares-last Channels Channels)) (S .sizes .last Channels) ])
         (S .sizes);
     jobs = jobs-kept p q jobs-same (S .jobs);

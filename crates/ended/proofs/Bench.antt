@@ -7,7 +7,7 @@ use lib.ListN.{replicate}
 use lib.Seq.{sets}
 use Rattle.words.specs.Words.{clear}
 use Rattle.picture.specs.Layout.{nobody}
-use Rattle.picture.specs.Records.{used, ready}
+use Rattle.picture.specs.Records.{members, with-members, used, ready}
 use Rattle.picture.specs.Numbers.{live}
 use Rattle.blocks.specs.Walk.{good, next, starts-within, starts}
 use Rattle.headers.specs.Header.{header}
@@ -17,7 +17,7 @@ use Rattle.areas.specs.Rules.{length-whole, kind-known, start-zero, free-blank,
 use Rattle.sound.specs.Whole.{size-right, zero-right, heap-right, last-within, current-ready}
 use Rattle.sound.specs.Sound.{sound}
 use Rattle.freeing.specs.Sweep.{goes, freed, absorbed, joined, run, swept}
-use Rattle.masks.specs.Masks.{mask}
+use Rattle.masks.specs.Masks.{with-bit, without, mask}
 use Rattle.tree.specs.Tree.{climbs, in-tree, tree}
 use Rattle.emptying.specs.Each.{each}
 use Rattle.emptying.specs.Taken.{waits, woken, blanked, emptied, channel-goes, channels-of, taken}
