@@ -17,11 +17,11 @@ pub enum Table {
 #[derive(Clone, Copy, PartialEq, Eq, PartialOrd, Ord, Debug)]
 pub enum Rule {
     /// "N of them: 1,024 to 16,384, a multiple of 4"; longword 0 holds N.
-    SizeRight,
+    SizeStated,
     /// Longword 7 holds 0.
-    ZeroRight,
+    SevenZero,
     /// "H is a multiple of 4, at least 4, and leaves the transient area at least 4"
-    HeapRight,
+    HeapStated,
     /// "block base (0 for job 0)"
     ZeroBase,
     /// "priority 0 to 127", in every job record.
@@ -60,9 +60,9 @@ pub enum Rule {
     /// "kinds 1 and 2 only in the heap, kind 3 only in the transient area"
     KindFits,
     /// "match one to one": a block of the table's kind is that of exactly one entry, its base and its owner.
-    Claimed(Table),
+    BlockMatched(Table),
     /// "match one to one": a live entry, but for job 0, has a block of the table's kind, at its base and with its owner.
-    Housed(Table),
+    EntryMatched(Table),
     /// "every owner is live, or $FFFFFFFF for a job": in records.
     OwnerLive(Table),
     /// "every owner is live, or $FFFFFFFF for a job": in blocks.
@@ -78,7 +78,7 @@ pub enum Rule {
     /// "longword 1 is nobody or a ready job"
     CurrentReady,
     /// "a job waits only for a live job other than 0 or itself, and only with timeout -1"
-    WaitsWell,
+    WaitAllowed,
     /// "accumulated is 0 unless ready"
     IdleZero,
 }
@@ -91,9 +91,9 @@ const RULES: [(Rule, Test); 41] = {
     use Rule::*;
     use Table::*;
     [
-        (SizeRight, |r| crate::fresh::length_is_good(r.length()) && r.picture[LENGTH] as usize == r.length()),
-        (ZeroRight, |r| r.picture[SPARE] == 0),
-        (HeapRight, |r| {
+        (SizeStated, |r| crate::fresh::length_is_good(r.length()) && r.picture[LENGTH] as usize == r.length()),
+        (SevenZero, |r| r.picture[SPARE] == 0),
+        (HeapStated, |r| {
             let h = r.picture[HEAP_LENGTH] as usize;
             h.is_multiple_of(STEP) && h >= STEP && HEAP + h + STEP <= r.length()
         }),
@@ -136,10 +136,10 @@ const RULES: [(Rule, Test); 41] = {
             r.heap.iter().all(|at| r.picture[at + block::KIND] != block::JOB)
                 && r.transient.iter().all(|at| ![block::PLAIN, block::QUEUE].contains(&r.picture[at + block::KIND]))
         }),
-        (Claimed(Jobs), |r| r.blocks_are_claimed(Jobs)),
-        (Housed(Jobs), |r| r.entries_are_housed(Jobs)),
-        (Claimed(Channels), |r| r.blocks_are_claimed(Channels)),
-        (Housed(Channels), |r| r.entries_are_housed(Channels)),
+        (BlockMatched(Jobs), |r| r.blocks_are_matched(Jobs)),
+        (EntryMatched(Jobs), |r| r.entries_are_matched(Jobs)),
+        (BlockMatched(Channels), |r| r.blocks_are_matched(Channels)),
+        (EntryMatched(Channels), |r| r.entries_are_matched(Channels)),
         (OwnerLive(Jobs), |r| r.entries(Jobs).all(|(_, record)| record[OWNER] == NOBODY || r.is_live(record[OWNER]))),
         (OwnerLive(Channels), |r| r.entries(Channels).all(|(_, record)| r.is_live(record[OWNER]))),
         (HolderLive, |r| {
@@ -158,7 +158,7 @@ const RULES: [(Rule, Test); 41] = {
         (LastWithin(Jobs), |r| r.picture[LAST_JOB_TAG] <= LAST_TAG),
         (LastWithin(Channels), |r| r.picture[LAST_CHANNEL_TAG] <= LAST_TAG),
         (CurrentReady, |r| current_holds(r.picture)),
-        (WaitsWell, |r| {
+        (WaitAllowed, |r| {
             r.entries(Jobs).all(|(_, record)| {
                 let wait = record[job::WAIT];
                 wait == 0 || wait != record[NUMBER] && r.is_live(wait) && record[job::TIMEOUT] as i32 == WITHOUT_END
@@ -288,11 +288,11 @@ impl<'a> Reading<'a> {
         record[BASE] == 4 * at as u32 && record[OWNER] == self.picture[at + block::OWNER]
     }
 
-    fn blocks_are_claimed(&self, table: Table) -> bool {
+    fn blocks_are_matched(&self, table: Table) -> bool {
         self.homes(table).all(|at| self.numbered(table).filter(|record| self.pair(record, at)).count() == 1)
     }
 
-    fn entries_are_housed(&self, table: Table) -> bool {
+    fn entries_are_matched(&self, table: Table) -> bool {
         self.numbered(table).all(|record| self.homes(table).any(|at| self.pair(record, at)))
     }
 
@@ -319,7 +319,7 @@ fn headers_of(picture: &[u32], area: Range<usize>) -> (Vec<usize>, bool) {
 /// Every broken rule, in the paper's order. A picture too short for its tables breaks the first rule only.
 pub fn broken(picture: &[u32]) -> Vec<Rule> {
     if picture.len() < HEAP {
-        return vec![Rule::SizeRight];
+        return vec![Rule::SizeStated];
     }
     let reading = Reading::new(picture);
     RULES.iter().filter(|(_, holds)| !holds(&reading)).map(|&(rule, _)| rule).collect()
@@ -328,7 +328,7 @@ pub fn broken(picture: &[u32]) -> Vec<Rule> {
 /// The first broken rule in the paper's order, or none where the picture is sound.
 pub fn first_broken(picture: &[u32]) -> Option<Rule> {
     if picture.len() < HEAP {
-        return Some(Rule::SizeRight);
+        return Some(Rule::SizeStated);
     }
     let reading = Reading::new(picture);
     RULES.iter().find(|(_, holds)| !holds(&reading)).map(|&(rule, _)| rule)
@@ -591,8 +591,8 @@ mod tests {
         use Table::*;
         let without_end = WITHOUT_END as u32;
         let cases: &[(Rule, &[(usize, u32)])] = &[
-            (SizeRight, &[(LENGTH, 1_028)]),
-            (ZeroRight, &[(SPARE, 1)]),
+            (SizeStated, &[(LENGTH, 1_028)]),
+            (SevenZero, &[(SPARE, 1)]),
             (ZeroBase, &[(job_record(0) + job::BASE, 16)]),
             (PriorityWithin, &[(child(job::PRIORITY), 128)]),
             (AccumulatedWithin, &[(job_record(0) + job::ACCUMULATED, 8_192)]),
@@ -649,15 +649,18 @@ mod tests {
             (Untouched, &[(668, 1_408), (1_020, 16)]),
             (KindFits, &[(668 + 1, 1)]),
             (KindFits, &[(412 + 1, 3), (JOB_MASK, 15), (32, 0x0003_0003), (34, 1_648), (LAST_JOB_TAG, 3)]),
-            (Housed(Jobs), &[(JOB_MASK, 15), (32, 0x0003_0003), (34, 0), (LAST_JOB_TAG, 3)]),
-            (Claimed(Jobs), &[(JOB_MASK, 15), (32, 0x0003_0003), (34, 4 * 648), (LAST_JOB_TAG, 3)]),
-            (Claimed(Jobs), &[(668 + 1, 3)]),
+            (EntryMatched(Jobs), &[(JOB_MASK, 15), (32, 0x0003_0003), (34, 0), (LAST_JOB_TAG, 3)]),
+            (BlockMatched(Jobs), &[(JOB_MASK, 15), (32, 0x0003_0003), (34, 4 * 648), (LAST_JOB_TAG, 3)]),
+            (BlockMatched(Jobs), &[(668 + 1, 3)]),
             (
-                Claimed(Channels),
+                BlockMatched(Channels),
                 &[(CHANNEL_MASK, 3), (268, 0x0002_0001), (269, JOB_1), (270, 1_600), (271, 1), (LAST_CHANNEL_TAG, 2)],
             ),
-            (Housed(Channels), &[(CHANNEL_MASK, 3), (268, 0x0002_0001), (269, 0), (271, 1), (LAST_CHANNEL_TAG, 2)]),
-            (Claimed(Channels), &[(412 + 1, 2), (416, 900)]),
+            (
+                EntryMatched(Channels),
+                &[(CHANNEL_MASK, 3), (268, 0x0002_0001), (269, 0), (271, 1), (LAST_CHANNEL_TAG, 2)],
+            ),
+            (BlockMatched(Channels), &[(412 + 1, 2), (416, 900)]),
             (HolderLive, &[(392 + 2, NOBODY)]),
             (HolderLive, &[(392 + 2, 0x0002_0001)]),
             (OwnerOlder, &[(child(job::OWNER), JOB_2), (648 + 2, JOB_2)]),
@@ -669,10 +672,10 @@ mod tests {
             (CurrentReady, &[(CURRENT, JOB_1)]),
             (CurrentReady, &[(CURRENT, 0x0001_0000)]),
             (CurrentReady, &[(CURRENT, 0xFFFF)]),
-            (WaitsWell, &[(child(job::WAIT), JOB_1), (child(job::TIMEOUT), without_end)]),
-            (WaitsWell, &[(child(job::WAIT), 0x0001_0002), (child(job::TIMEOUT), without_end)]),
-            (WaitsWell, &[(child(job::WAIT), JOB_2)]),
-            (WaitsWell, &[(child(job::WAIT), JOB_2), (child(job::TIMEOUT), 5)]),
+            (WaitAllowed, &[(child(job::WAIT), JOB_1), (child(job::TIMEOUT), without_end)]),
+            (WaitAllowed, &[(child(job::WAIT), 0x0001_0002), (child(job::TIMEOUT), without_end)]),
+            (WaitAllowed, &[(child(job::WAIT), JOB_2)]),
+            (WaitAllowed, &[(child(job::WAIT), JOB_2), (child(job::TIMEOUT), 5)]),
             (IdleZero, &[(child(job::ACCUMULATED), 1)]),
             (IdleZero, &[(child(job::PRIORITY), 5), (child(job::TIMEOUT), 5), (child(job::ACCUMULATED), 1)]),
         ];
@@ -683,7 +686,7 @@ mod tests {
             assert!(!is_sound(&picture), "{rule:?} {changes:?}");
         }
         for (rule, _) in RULES {
-            let alone = rule == HeapRight || cases.iter().any(|case| case.0 == rule);
+            let alone = rule == HeapStated || cases.iter().any(|case| case.0 == rule);
             assert_ne!(alone, NEVER_ALONE.contains(&rule), "{rule:?}");
         }
     }
@@ -694,7 +697,7 @@ mod tests {
             let mut picture = fresh_picture(1_024, 256);
             picture[HEAP_LENGTH] = heap_length;
             picture[HEAP] = 4 * 632;
-            assert_eq!(broken(&picture), [Rule::HeapRight]);
+            assert_eq!(broken(&picture), [Rule::HeapStated]);
             assert!(!is_sound(&picture));
         }
     }
@@ -719,10 +722,10 @@ mod tests {
                     (648 + 2, NOBODY),
                 ],
             ),
-            (&[Claimed(Jobs), Housed(Jobs)], &[(648 + 2, NOBODY)]),
-            (&[Claimed(Jobs), Housed(Jobs)], &[(stranger(job::OWNER), 0)]),
-            (&[Claimed(Channels), Housed(Channels)], &[(400 + 2, 0)]),
-            (&[Claimed(Channels), Housed(Channels)], &[(channel_record(0) + 1, JOB_2)]),
+            (&[BlockMatched(Jobs), EntryMatched(Jobs)], &[(648 + 2, NOBODY)]),
+            (&[BlockMatched(Jobs), EntryMatched(Jobs)], &[(stranger(job::OWNER), 0)]),
+            (&[BlockMatched(Channels), EntryMatched(Channels)], &[(400 + 2, 0)]),
+            (&[BlockMatched(Channels), EntryMatched(Channels)], &[(channel_record(0) + 1, JOB_2)]),
             (&[OwnerLive(Jobs), HolderLive], &[(stranger(job::OWNER), 0x0001_0002), (656 + 2, 0x0001_0002)]),
             (&[OwnerLive(Channels), HolderLive], &[(channel_record(0) + 1, NOBODY), (400 + 2, NOBODY)]),
             (&[OwnerOlder, ZeroUnowned], &[(9, JOB_1)]),
@@ -792,7 +795,7 @@ mod tests {
         too_great.resize(16_388, 0);
         too_great[LENGTH] = 16_388;
         too_great[648] += 16;
-        assert_eq!(broken(&too_great), [Rule::SizeRight]);
+        assert_eq!(broken(&too_great), [Rule::SizeStated]);
         assert!(!is_sound(&too_great));
         for filling in [0, 1, NOBODY] {
             assert!(!is_sound(&vec![filling; 1_024]));
@@ -804,11 +807,11 @@ mod tests {
         let mut picture = furnished();
         picture.push(0);
         picture[LENGTH] += 1;
-        assert_eq!(first_broken(&picture), Some(Rule::SizeRight));
+        assert_eq!(first_broken(&picture), Some(Rule::SizeStated));
         for heap_length in [257, 0, 632, 636, 0xFFFF_FFFC] {
             let mut picture = furnished();
             picture[HEAP_LENGTH] = heap_length;
-            assert_eq!(first_broken(&picture), Some(Rule::HeapRight));
+            assert_eq!(first_broken(&picture), Some(Rule::HeapStated));
             assert!(!is_sound(&picture));
         }
     }

@@ -14,20 +14,20 @@ use Rattle.picture.specs.declared.Table.the-variants.{Jobs}
 use Rattle.picture.specs.declared.Area.the-variants.{Transient}
 use Rattle.picture.proofs.Records.{used-below}
 use Rattle.blocks.proofs.Starts.{starts-in}
-use Rattle.matching.specs.Match.{claims}
+use Rattle.matching.specs.Match.{has-block}
 use Rattle.picture.specs.Layout.{greatest-priority}
 use Rattle.sound.specs.Sound.{sound}
 use Rattle.facts.proofs.Sound.{Sound}
 use Rattle.facts.proofs.View.{view}
 
-claims-other : (p : List ℕ) (k : ℕ) → used p Jobs k ≡ true → 0 < k → claims p Jobs k ≡ true
-unfolding claims
-claims-other p k u l = rw (le-leb 1 k l, u)
+has-block-other : (p : List ℕ) (k : ℕ) → used p Jobs k ≡ true → 0 < k → has-block p Jobs k ≡ true
+unfolding has-block
+has-block-other p k u l = rw (le-leb 1 k l, u)
 
 pub base-within : (p : List ℕ) (k : ℕ) → sound p ≡ true → used p Jobs k ≡ true → base p Jobs k < 4 * greatest-size
 base-within p k s u = ⊎-elim
     (λ (l : 0 < k).
-    let h = S .matched Jobs .home k (used-below p Jobs k u) (claims-other p k u l) in
+    let h = S .matched Jobs .home k (used-below p Jobs k u) (has-block-other p k u l) in
     let q = h .1 .1 .place in
     let w = starts-in p (from p Transient) (upto p Transient) (h .0) (h .1 .0) .1 in
     let n = S .sizes .long in

@@ -20,8 +20,8 @@ use Rattle.blocks.specs.Header.{size, queue-length, rounded}
 use Rattle.blocks.specs.Walk.{blocks}
 use Rattle.blocks.proofs.Walk.{Good, is-good}
 use Rattle.blocks.proofs.Starts.{starts-in}
-use Rattle.matching.specs.Match.{first, claims}
-use Rattle.matching.proofs.Counts.{Own}
+use Rattle.matching.specs.Match.{first, has-block}
+use Rattle.matching.proofs.Counts.{Matches}
 use Rattle.matching.proofs.Matched.{Matched}
 use Rattle.sound.specs.Sound.{sound}
 use Rattle.facts.proofs.Sound.{Sizes, Queue, Tiled, Sound}
@@ -53,7 +53,7 @@ channel-found p n k h =
 -- the queue at i is that of the channel at position k
 pub record Held (p : List ℕ) (k i : ℕ) : Type 0 where
   pub there : In i (blocks p Heap)
-  pub own : Own p Channels k i
+  pub own : Matches p Channels k i
   pub queue : Queue p i
   pub ring : Ring p i
   pub low : heap-base ≤ i
@@ -64,7 +64,7 @@ pub record Held (p : List ℕ) (k i : ℕ) : Type 0 where
 
 -- every channel in use has a queue
 pub used-queue : (p : List ℕ) → Sound p → (k : ℕ) → used p Channels k ≡ true → Held p k (queue-of p k)
-unfolding claims
+unfolding has-block
 used-queue p S k u = subst (Held p k) z (record {
   there = h .1 .0;
   own = h .1 .1;
@@ -77,10 +77,10 @@ used-queue p S k u = subst (Held p k) z (record {
   room = let l = q .long in rw l (omega arith);
 })
   where
-    c : claims p Channels k ≡ true
+    c : has-block p Channels k ≡ true
     c = rw (le-leb 0 k (omega arith)) u
 
-    h : (i : ℕ) × (In i (blocks p Heap) × Own p Channels k i)
+    h : (i : ℕ) × (In i (blocks p Heap) × Matches p Channels k i)
     h = S .matched Channels .home k (used-below p Channels k u) c
 
     q : Queue p (h .0)

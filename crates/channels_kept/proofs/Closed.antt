@@ -25,8 +25,8 @@ use Rattle.picture.proofs.Members.{Spares, holds-low, spares-past, spares-size,
 use Rattle.blocks.specs.Header.{kind-field, kind, kind-of, queue-kind, free}
 use Rattle.blocks.specs.Walk.{starts, blocks}
 use Rattle.headers.specs.Area.{Outside}
-use Rattle.matching.specs.Match.{first, area-of, claims}
-use Rattle.matching.proofs.Counts.{Own}
+use Rattle.matching.specs.Match.{first, area-of, has-block}
+use Rattle.matching.proofs.Counts.{Matches}
 use Rattle.matching.proofs.Matched.{Matched}
 use Rattle.masks.specs.Masks.{without-bit}
 use Rattle.masks.proofs.Masks.{without-bit-here, without-bit-other}
@@ -35,8 +35,8 @@ use Rattle.freeing.proofs.Swept.{Swept}
 use Rattle.freeing.proofs.Alone.{the-block-at-a-goes}
 use Rattle.sound.specs.Sound.{sound}
 use Rattle.facts.proofs.Sound.{Sizes, Owned, Entries, Jobs-fine, Channels-fine, Sound}
-use Rattle.facts.proofs.View.{view, sound-again, claims-used}
-use Rattle.facts.proofs.Same.{used-same, claims-same, Lives, owned-kept, starts-between}
+use Rattle.facts.proofs.View.{view, sound-again, has-block-used}
+use Rattle.facts.proofs.Same.{used-same, has-block-same, Lives, owned-kept, starts-between}
 use Rattle.facts.proofs.Ages.{Ages}
 use Rattle.rooms.proofs.Sizes.{Lies, areas-lie-in-a-sound-picture}
 use Rattle.keeping.proofs.Tables.{TablesSame, mask-same}
@@ -132,7 +132,7 @@ module _ (p : List ℕ) (n : ℕ) (s : sound p ≡ true) (l : live p Channels n 
       (m, sym (used-other j (used-below q Channels j u) m) ∙ u)
 
   entries : Entries q Channels
-  unfolding claims
+  unfolding has-block
   entries =
       let E = S .channels .entries in
       let w = low (last-word Channels) (omega arith) (spares-last Channels Channels) in
@@ -140,7 +140,7 @@ module _ (p : List ℕ) (n : ℕ) (s : sound p ≡ true) (l : live p Channels n 
       record {
         unused = λ j f a b u. unused-now j f a b u;
         place = λ j u. rw (num j u) (E .place j (still-old j u .1));
-        tagged = λ j c. let u = claims-used q Channels j c in rw (num j u) (E .tagged j (rw (both (leb (first Channels) j) (used q Channels j) c .0, still-old j u .1)));
+        tagged = λ j c. let u = has-block-used q Channels j c in rw (num j u) (E .tagged j (rw (both (leb (first Channels) j) (used q Channels j) c .0, still-old j u .1)));
         once = λ i j u v e. E .once i j (still-old i u .1) (still-old j v .1) (rw (num i u, num j v) at e);
         owned = λ j u. rw (field-old j owner-field (used-below q Channels j u) (omega arith) (still-old j u .0)) (owned-kept p q false (owner p Channels j) lives (E .owned j (still-old j u .1)));
         given = λ j u. rw (num j u, w) (E .given j (still-old j u .1));
@@ -164,21 +164,21 @@ module _ (p : List ℕ) (n : ℕ) (s : sound p ≡ true) (l : live p Channels n 
   abbrev NoPair : ℕ → ℕ → Type 0
   NoPair j i = ⊥
 
-  job-claims : (j : ℕ) → claims q Jobs j ≡ claims p Jobs j
-  job-claims j = claims-same p q Jobs (jobs-same .mask) j
+  job-has-block : (j : ℕ) → has-block q Jobs j ≡ has-block p Jobs j
+  job-has-block j = has-block-same p q Jobs (jobs-same .mask) j
 
-  still-job : (j : ℕ) → j < positions Jobs → claims p Jobs j ≡ true → Still p q Jobs j
-  still-job j a c = record { before = c; now-too = job-claims j ∙ c; base-as-was = jobs-same .fields j 2 a (omega arith); owner-as-was = jobs-same .fields j 1 a (omega arith) }
+  still-job : (j : ℕ) → j < positions Jobs → has-block p Jobs j ≡ true → Still p q Jobs j
+  still-job j a c = record { before = c; now-too = job-has-block j ∙ c; base-as-was = jobs-same .fields j 2 a (omega arith); owner-as-was = jobs-same .fields j 1 a (omega arith) }
 
-  claims-back : (j : ℕ) → claims q Channels j ≡ true → claims p Channels j ≡ true
-  unfolding claims
-  claims-back j c = rw (both (leb (first Channels) j) (used q Channels j) c .0, still-old j (claims-used q Channels j c) .1)
+  has-block-back : (j : ℕ) → has-block q Channels j ≡ true → has-block p Channels j ≡ true
+  unfolding has-block
+  has-block-back j c = rw (both (leb (first Channels) j) (used q Channels j) c .0, still-old j (has-block-used q Channels j c) .1)
 
-  still-channel : (j : ℕ) → j < positions Channels → (j ≡ k → ⊥) → claims p Channels j ≡ true → Still p q Channels j
-  unfolding claims
+  still-channel : (j : ℕ) → j < positions Channels → (j ≡ k → ⊥) → has-block p Channels j ≡ true → Still p q Channels j
+  unfolding has-block
   still-channel j a m c = record {
     before = c;
-    now-too = rw (both (leb (first Channels) j) (used p Channels j) c .0, used-other j a m ∙ claims-used p Channels j c);
+    now-too = rw (both (leb (first Channels) j) (used p Channels j) c .0, used-other j a m ∙ has-block-used p Channels j c);
     base-as-was = field-old j 2 a (omega arith) m;
     owner-as-was = field-old j 1 a (omega arith) m;
   }
@@ -195,11 +195,11 @@ module _ (p : List ℕ) (n : ℕ) (s : sound p ≡ true) (l : live p Channels n 
 
   rematched : (t : Table) → Rematched p q t NoPair
   rematched Jobs = record {
-    entries = λ j a c. inl (still-job j a (sym (job-claims j) ∙ c));
+    entries = λ j a c. inl (still-job j a (sym (job-has-block j) ∙ c));
     homes = λ j i h m o. ⊎-elim (λ b. b) (λ (g : (Heap ≡ Transient) × Only at i). absurd (elsewhere (g .0))) (change-homes p q Heap None (Only at) closed-change lies (S .tiled) Jobs i m (o .sorts));
     standing = λ i m z. ⊎-elim inl (λ (g : (Heap ≡ Transient) × None i). absurd (g .1)) (change-standing p q Heap None (Only at) closed-change lies (S .tiled) Jobs i m z);
-    heirs = λ j i a b o. still-job j a (o .claim);
-    new-own = λ j i x. absurd x;
+    heirs = λ j i a b o. still-job j a (o .has);
+    new-matches = λ j i x. absurd x;
     new-block = λ j i x. absurd x;
     once = λ j m i x. absurd x;
   }
@@ -207,21 +207,21 @@ module _ (p : List ℕ) (n : ℕ) (s : sound p ≡ true) (l : live p Channels n 
       elsewhere : Heap ≡ Transient → ⊥
       elsewhere e = let z : _≡_ {A = ℕ} 0 1 = cc in omega arith
   rematched Channels = record {
-    entries = λ j a c. inl (still-channel j a (still-old j (claims-used q Channels j c) .0) (claims-back j c));
-    homes = λ j i h m o. ⊎-elim (λ b. b) (λ (g : (Heap ≡ Heap) × Only at i). absurd (still-old j (claims-used q Channels j (h .now-too)) .0 (sole j i (used-below p Channels j (claims-used p Channels j (h .before))) (g .1) o)))
+    entries = λ j a c. inl (still-channel j a (still-old j (has-block-used q Channels j c) .0) (has-block-back j c));
+    homes = λ j i h m o. ⊎-elim (λ b. b) (λ (g : (Heap ≡ Heap) × Only at i). absurd (still-old j (has-block-used q Channels j (h .now-too)) .0 (sole j i (used-below p Channels j (has-block-used p Channels j (h .before))) (g .1) o)))
         (change-homes p q Heap None (Only at) closed-change lies (S .tiled) Channels i m (o .sorts));
     standing = λ i m z. ⊎-elim inl (λ (g : (Heap ≡ Heap) × None i). absurd (g .1)) (change-standing p q Heap None (Only at) closed-change lies (S .tiled) Channels i m z);
-    heirs = λ j i a b o. still-channel j a (λ e. gone-by j i e b o) (o .claim);
-    new-own = λ j i x. absurd x;
+    heirs = λ j i a b o. still-channel j a (λ e. gone-by j i e b o) (o .has);
+    new-matches = λ j i x. absurd x;
     new-block = λ j i x. absurd x;
     once = λ j m i x. absurd x;
   }
     where
       -- only the channel that is closed has that block
-      sole : (j i : ℕ) → j < positions Channels → i ≡ at → Own p Channels j i → j ≡ k
-      sole j i a e o = S .matched Channels .apart j k at a there (H .there) (subst (Own p Channels j) e o) (H .own)
+      sole : (j i : ℕ) → j < positions Channels → i ≡ at → Matches p Channels j i → j ≡ k
+      sole j i a e o = S .matched Channels .apart j k at a there (H .there) (subst (Matches p Channels j) e o) (H .own)
 
-      gone-by : (j i : ℕ) → j ≡ k → Stands p q Channels i → Own p Channels j i → ⊥
+      gone-by : (j i : ℕ) → j ≡ k → Stands p q Channels i → Matches p Channels j i → ⊥
       gone-by j i e b o =
           let x : i ≡ at = let u = o .place in let v = H .own .place in let w : base p Channels j ≡ base p Channels k = ap (base p Channels) e in omega arith in
           gone (subst (λ (y : ℕ). In y (blocks q Heap)) x (b .now-too)) (subst (λ (y : ℕ). kind q y ≡ queue-kind) x (b .kind-as-was ∙ o .sorts))

@@ -15,7 +15,7 @@ use Rattle.picture.specs.declared.Table.the-variants.{Jobs}
 use Rattle.picture.proofs.Records.{used-below}
 use Rattle.picture.proofs.Numbers.{Live, live-is}
 use Rattle.facts.proofs.Sound.{Sizes, Waits, Entries, Jobs-fine, Current}
-use Rattle.facts.proofs.Same.{used-same, claims-same, live-same, Lives, EntriesSame, entries-same}
+use Rattle.facts.proofs.Same.{used-same, has-block-same, live-same, Lives, EntriesSame, entries-same}
 use Rattle.facts.proofs.Ages.{Ages, ages-same}
 
 pub record JobsSame (p q : List ℕ) : Type 0 where

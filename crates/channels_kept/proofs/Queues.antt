@@ -12,7 +12,7 @@ use Rattle.picture.specs.declared.Table.the-variants.{Channels}
 use Rattle.picture.specs.declared.Area.the-variants.{Heap}
 use Rattle.picture.proofs.Numbers.{Live, live-is}
 use Rattle.blocks.specs.Header.{kind, queue-kind}
-use Rattle.matching.proofs.Counts.{Own}
+use Rattle.matching.proofs.Counts.{Matches}
 use Rattle.sound.specs.Sound.{sound}
 use Rattle.facts.proofs.Sound.{Sound}
 use Rattle.facts.proofs.View.{view}

@@ -22,16 +22,16 @@ use Rattle.picture.proofs.Records.{used-below}
 use Rattle.picture.proofs.Numbers.{Live, live-is}
 use Rattle.blocks.specs.Header.{kind, kind-of, job-kind}
 use Rattle.blocks.specs.Walk.{blocks}
-use Rattle.matching.specs.Match.{first, area-of, claims}
-use Rattle.matching.proofs.Counts.{Own}
+use Rattle.matching.specs.Match.{first, area-of, has-block}
+use Rattle.matching.proofs.Counts.{Matches}
 use Rattle.matching.proofs.Matched.{Matched}
 use Rattle.headers.proofs.Header.{same-or-not}
 use Rattle.picture.specs.Layout.{greatest-priority, hold, greatest-timeout}
 use Rattle.picture.proofs.Members.{spares-size, spares-current, spares-heap, spares-zero}
 use Rattle.sound.specs.Sound.{sound}
 use Rattle.facts.proofs.Sound.{Sizes, Waits, Owned, Entries, Jobs-fine, Channels-fine, Current, Sound}
-use Rattle.facts.proofs.View.{sound-again, claims-used}
-use Rattle.facts.proofs.Same.{used-same, claims-same, Lives, EntriesSame, entries-same}
+use Rattle.facts.proofs.View.{sound-again, has-block-used}
+use Rattle.facts.proofs.Same.{used-same, has-block-same, Lives, EntriesSame, entries-same}
 use Rattle.facts.proofs.Ages.{Ages, ages-still}
 use Rattle.rooms.specs.Room.{header-byte}
 use Rattle.calls.specs.Outcome.{Outcome}
@@ -210,10 +210,10 @@ module _ (p d : List ℕ) (h : sound p ≡ true) (c : Checked p d) where
   abbrev Pair : Table → ℕ → ℕ → Type 0
   Pair t j x = (t ≡ Jobs) × ((j ≡ k) × (x ≡ at))
 
-  still : (t : Table) (j : ℕ) → j < positions t → claims p t j ≡ true → Still p q t j
-  unfolding claims
+  still : (t : Table) (j : ℕ) → j < positions t → has-block p t j ≡ true → Still p q t j
+  unfolding has-block
   still Jobs j l x =
-      let u = claims-used p Jobs j x in
+      let u = has-block-used p Jobs j x in
       let n = apart j u in
       record {
         before = x;
@@ -221,24 +221,24 @@ module _ (p d : List ℕ) (h : sound p ≡ true) (c : Checked p d) where
         base-as-was = old j base-field l (omega arith) n;
         owner-as-was = old j owner-field l (omega arith) n;
       }
-  still Channels j l x = record { before = x; now-too = claims-same p q Channels channel-mask j ∙ x; base-as-was = channel-field j base-field l (omega arith); owner-as-was = channel-field j owner-field l (omega arith) }
+  still Channels j l x = record { before = x; now-too = has-block-same p q Channels channel-mask j ∙ x; base-as-was = channel-field j base-field l (omega arith); owner-as-was = channel-field j owner-field l (omega arith) }
 
-  entries-by : (t : Table) (j : ℕ) → j < positions t → claims q t j ≡ true → Still p q t j ⊎ ((i : ℕ) × Pair t j i)
-  unfolding claims
+  entries-by : (t : Table) (j : ℕ) → j < positions t → has-block q t j ≡ true → Still p q t j ⊎ ((i : ℕ) × Pair t j i)
+  unfolding has-block
   entries-by Jobs j l x = ⊎-elim
       (λ (e : j ≡ k). inr (at, (refl, (e, refl))))
       (λ (v : (j ≡ k → ⊥) × (used p Jobs j ≡ true)). inl (still Jobs j l (rw (both (leb (first Jobs) j) (used q Jobs j) x .0, v .1))))
-      (cases j (claims-used q Jobs j x))
-  entries-by Channels j l x = inl (still Channels j l (sym (claims-same p q Channels channel-mask j) ∙ x))
+      (cases j (has-block-used q Jobs j x))
+  entries-by Channels j l x = inl (still Channels j l (sym (has-block-same p q Channels channel-mask j) ∙ x))
 
   new-block : (t : Table) (i : ℕ) → (Transient ≡ area-of t) × (i ≡ at) → (j : ℕ) × Pair t j i
   new-block Jobs i e = (k, (refl, (refl, e .1)))
   new-block Channels i e = absurd (elsewhere (e .0))
 
-  pair : Own q Jobs k at
-  unfolding claims
+  pair : Matches q Jobs k at
+  unfolding has-block
   pair = record {
-    claim = rw (le-leb 1 k (let n = not-zero in omega arith), used-here p q Jobs k (next-tag p Jobs) o (header-byte at) E there vacant);
+    has = rw (le-leb 1 k (let n = not-zero in omega arith), used-here p q Jobs k (next-tag p Jobs) o (header-byte at) E there vacant);
     sorts = the.at-kind p d h c;
     place = E .its-base;
     held = E .its-owner ∙ sym (the.at-holder p d h c);
@@ -249,13 +249,13 @@ module _ (p d : List ℕ) (h : sound p ≡ true) (c : Checked p d) where
     entries = entries-by t;
     homes = λ j i s m w. ⊎-elim (λ b. b) (λ (g : (Transient ≡ area-of t) × None i). absurd (g .1)) (change-homes p q Transient (Only at) None (the.made-change p d h c) (the.lies p d h c) (S .tiled) t i m (w .sorts));
     standing = λ i m z. ⊎-elim inl (λ n. inr (new-block t i n)) (change-standing p q Transient (Only at) None (the.made-change p d h c) (the.lies p d h c) (S .tiled) t i m z);
-    heirs = λ j i l b w. still t j l (w .claim);
-    new-own = λ j i n. own t j i n;
+    heirs = λ j i l b w. still t j l (w .has);
+    new-matches = λ j i n. own t j i n;
     new-block = λ j i n m z. taken t i (n .0) (n .1 .1) z;
     once = λ j x i a b. a .1 .0 ∙ sym (b .1 .0);
   }
     where
-      own : (t : Table) (j i : ℕ) → Pair t j i → (j < positions t) × (In i (blocks q (area-of t)) × Own q t j i)
+      own : (t : Table) (j i : ℕ) → Pair t j i → (j < positions t) × (In i (blocks q (area-of t)) × Matches q t j i)
       own Jobs j i n = rw (n .1 .0, n .1 .1) (there, (the.at-there p d h c, pair))
       own Channels j i n = absurd (no-job (n .0))
 

@@ -11,10 +11,10 @@ use Rattle.picture.specs.Records.{members, with-members, used, ready}
 use Rattle.picture.specs.Numbers.{live}
 use Rattle.blocks.specs.Walk.{good, next, starts-within, starts}
 use Rattle.headers.specs.Header.{header}
-use Rattle.matching.specs.Match.{claims, pair, claimed, own, housed}
-use Rattle.records.specs.Rules.{zero-base, priority-within, accumulated-within, timeout-within, ends-in-one, blank, positioned, zero-exists, tag-within, tags-differ, tag-once, owner-live, owner-older, zero-unowned, tag-given, waits-well, idle-zero}
+use Rattle.matching.specs.Match.{has-block, pair, block-matched, matches, entry-matched}
+use Rattle.records.specs.Rules.{zero-base, priority-within, accumulated-within, timeout-within, ends-in-one, blank, positioned, zero-exists, tag-within, tags-differ, tag-once, owner-live, owner-older, zero-unowned, tag-given, wait-allowed, idle-zero}
 use Rattle.areas.specs.Rules.{length-whole, kind-known, start-zero, free-blank, queue-room, tiles, untouched, kind-fits, holder-live}
-use Rattle.sound.specs.Whole.{size-right, zero-right, heap-right, last-within, current-ready}
+use Rattle.sound.specs.Whole.{size-stated, seven-zero, heap-stated, last-within, current-ready}
 use Rattle.sound.specs.Sound.{sound}
 use Rattle.freeing.specs.Sweep.{goes, freed, absorbed, joined, run, swept}
 use Rattle.masks.specs.Masks.{with-bit, without, mask}
@@ -68,11 +68,11 @@ after =
 
 -- both pictures are sound: the laws speak of something
 before-is-sound : sound before ≡ true
-unfolding tables heap transient before sound size-right zero-right heap-right last-within current-ready zero-base priority-within accumulated-within timeout-within ends-in-one blank positioned zero-exists tag-within tags-differ tag-once owner-live owner-older zero-unowned tag-given waits-well idle-zero length-whole kind-known start-zero free-blank queue-room tiles untouched kind-fits holder-live claims pair claimed own housed used ready live starts starts-within next good members
+unfolding tables heap transient before sound size-stated seven-zero heap-stated last-within current-ready zero-base priority-within accumulated-within timeout-within ends-in-one blank positioned zero-exists tag-within tags-differ tag-once owner-live owner-older zero-unowned tag-given wait-allowed idle-zero length-whole kind-known start-zero free-blank queue-room tiles untouched kind-fits holder-live has-block pair block-matched matches entry-matched used ready live starts starts-within next good members
 before-is-sound = refl
 
 after-is-sound : sound after ≡ true
-unfolding after sound size-right zero-right heap-right last-within current-ready zero-base priority-within accumulated-within timeout-within ends-in-one blank positioned zero-exists tag-within tags-differ tag-once owner-live owner-older zero-unowned tag-given waits-well idle-zero length-whole kind-known start-zero free-blank queue-room tiles untouched kind-fits holder-live claims pair claimed own housed used ready live starts starts-within next good members
+unfolding after sound size-stated seven-zero heap-stated last-within current-ready zero-base priority-within accumulated-within timeout-within ends-in-one blank positioned zero-exists tag-within tags-differ tag-once owner-live owner-older zero-unowned tag-given wait-allowed idle-zero length-whole kind-known start-zero free-blank queue-room tiles untouched kind-fits holder-live has-block pair block-matched matches entry-matched used ready live starts starts-within next good members
 after-is-sound = refl
 
 -- the tree of job 2: positions 1, 2, 3

@@ -23,11 +23,11 @@ use Rattle.picture.proofs.Numbers.{live-is}
 use Rattle.blocks.specs.Header.{kind, free, holder, kind-of}
 use Rattle.blocks.specs.Walk.{blocks}
 use Rattle.blocks.proofs.Starts.{starts-in}
-use Rattle.matching.specs.Match.{area-of, claims}
-use Rattle.matching.proofs.Counts.{Own}
+use Rattle.matching.specs.Match.{area-of, has-block}
+use Rattle.matching.proofs.Counts.{Matches}
 use Rattle.matching.proofs.Matched.{apart-base}
 use Rattle.facts.proofs.Sound.{Sound}
-use Rattle.facts.proofs.View.{claims-used}
+use Rattle.facts.proofs.View.{has-block-used}
 use Rattle.freeing.specs.Sweep.{named, goes}
 use Rattle.tree.specs.Tree.{in-tree, tree}
 use Rattle.masks.specs.Masks.{set-width, mask}
@@ -107,31 +107,31 @@ module _ (p : List ℕ) (S : Sound p) (t : ℕ) where
       past : (x : ℕ) → x ≡ nobody → position x < positions Jobs → ⊥
       past x e l = let z : position nobody < positions Jobs = subst (λ (y : ℕ). position y < positions Jobs) e l in omega arith
 
-  claims-top : used p Jobs t ≡ true → (t ≡ 0 → ⊥) → claims p Jobs t ≡ true
-  unfolding claims
-  claims-top u n = rw (le-leb 1 t (omega arith), u)
+  has-block-top : used p Jobs t ≡ true → (t ≡ 0 → ⊥) → has-block p Jobs t ≡ true
+  unfolding has-block
+  has-block-top u n = rw (le-leb 1 t (omega arith), u)
 
   in-use : (T : Table) (i : ℕ) → kind p i ≡ kind-of T → free p i ≡ false
   in-use Jobs i e = ne-eqb (kind p i) 0 (λ z. omega arith)
   in-use Channels i e = ne-eqb (kind p i) 0 (λ z. omega arith)
 
   -- an entry's block goes if the entry does
-  pub block-goes : used p Jobs t ≡ true → (t ≡ 0 → ⊥) → (T : Table) (k i : ℕ) → In i (blocks p (area-of T)) → Own p T k i
+  pub block-goes : used p Jobs t ≡ true → (t ≡ 0 → ⊥) → (T : Table) (k i : ℕ) → In i (blocks p (area-of T)) → Matches p T k i
       → goes p (tree p t) (extra (base p Jobs t / 4) (area-of T)) i ≡ bit (going (tree p t) (channels-of p (tree p t)) T) k
   unfolding goes channels-of channel-goes
   block-goes u n Jobs k i b o = rw (in-use Jobs i (o .sorts)) (go (eqb i (base p Jobs t / 4)) refl)
     where
       own : used p Jobs k ≡ true
-      own = claims-used p Jobs k (o .claim)
+      own = has-block-used p Jobs k (o .has)
 
       top-base : (4 * (base p Jobs t / 4)) ≡ base p Jobs t
-      top-base = let x = S .matched Jobs .home t (used-below p Jobs t u) (claims-top u n) in let y = x .1 .1 .place in omega arith
+      top-base = let x = S .matched Jobs .home t (used-below p Jobs t u) (has-block-top u n) in let y = x .1 .1 .place in omega arith
 
       go : (c : Bool) → eqb i (base p Jobs t / 4) ≡ c → c || named (tree p t) (holder p i) ≡ bit (tree p t) k
       go true z =
           let e = eqb-true i (base p Jobs t / 4) z in
           let y : base p Jobs k ≡ base p Jobs t = o .place ∙ ap (λ (x : ℕ). 4 * x) e ∙ top-base in
-          let w : k ≡ t = apart-base p Jobs k t (S .matched Jobs) (used-below p Jobs k own) (used-below p Jobs t u) (o .claim) (claims-top u n) y in
+          let w : k ≡ t = apart-base p Jobs k t (S .matched Jobs) (used-below p Jobs k own) (used-below p Jobs t u) (o .has) (has-block-top u n) y in
           sym (subst (λ (x : ℕ). bit (tree p t) x ≡ true) (sym w) (tree-top p O t u))
       go false z = rw (← o .held) (by-owner k own (λ (e : k ≡ t). eqb-false i (base p Jobs t / 4) z (at-top e)))
         where
@@ -139,6 +139,6 @@ module _ (p : List ℕ) (S : Sound p) (t : ℕ) where
           at-top e = let y : base p Jobs t ≡ 4 * i = subst (λ (x : ℕ). base p Jobs x ≡ 4 * i) e (o .place) in omega arith
   block-goes u n Channels k i b o =
       let w = starts-in p (from p Heap) (upto p Heap) i b .0 in
-      let v = claims-used p Channels k (o .claim) in
+      let v = has-block-used p Channels k (o .has) in
       rw (in-use Channels i (o .sorts), ne-eqb i no-block (λ z. omega arith), ← o .held)
       (sym (mask-bit (channel-goes p (tree p t)) (positions Channels) k (used-below p Channels k v) ∙ rw v))

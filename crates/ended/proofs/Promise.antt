@@ -27,7 +27,7 @@ use Rattle.blocks.proofs.Starts.{starts-in}
 use Rattle.headers.specs.Area.{free-bytes}
 use Rattle.headers.proofs.Header.{same-or-not}
 use Rattle.headers.proofs.Row.{block-of}
-use Rattle.matching.specs.Match.{claims}
+use Rattle.matching.specs.Match.{has-block}
 use Rattle.sound.specs.Sound.{sound}
 use Rattle.facts.proofs.Sound.{Sound}
 use Rattle.facts.proofs.View.{view}
@@ -113,9 +113,9 @@ module _ (p : List ℕ) (S : Sound p) (t key : ℕ) (top : used p Jobs t ≡ tru
       past : (x : ℕ) → x ≡ nobody → position x < positions Jobs → ⊥
       past x e l = let z : position nobody < positions Jobs = subst (λ (y : ℕ). position y < positions Jobs) e l in omega arith
 
-  top-claims : claims p Jobs t ≡ true
-  unfolding claims
-  top-claims = rw (le-leb 1 t (omega arith), top)
+  top-has-block : has-block p Jobs t ≡ true
+  unfolding has-block
+  top-has-block = rw (le-leb 1 t (omega arith), top)
 
   spared : (r : Area) (i : ℕ) → In i (blocks p r) → free p i ≡ false → (Member p t (holder p i) → ⊥) → (base p Jobs t ≡ 4 * i → ⊥) → goes p (tree p t) (extra (base p Jobs t / 4) r) i ≡ false
   unfolding goes
@@ -124,7 +124,7 @@ module _ (p : List ℕ) (S : Sound p) (t key : ℕ) (top : used p Jobs t ≡ tru
       not-extra : (r : Area) → In i (blocks p r) → i ≡ extra (base p Jobs t / 4) r → ⊥
       not-extra Heap m e = let w = starts-in p (from p Heap) (upto p Heap) i m .0 in omega arith
       not-extra Transient m e =
-          let h = S .matched Jobs .home t (used-below p Jobs t top) top-claims in
+          let h = S .matched Jobs .home t (used-below p Jobs t top) top-has-block in
           let z = h .1 .1 .place in
           b (omega arith)
 

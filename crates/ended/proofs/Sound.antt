@@ -25,15 +25,15 @@ use Rattle.blocks.specs.Header.{kind-field, holder-field, start-field, queue-le
 use Rattle.blocks.specs.Walk.{good, next, starts, blocks}
 use Rattle.headers.proofs.Header.{same-or-not}
 use Rattle.headers.proofs.Row.{block-of}
-use Rattle.matching.specs.Match.{first, area-of, claims}
-use Rattle.matching.proofs.Counts.{Own}
+use Rattle.matching.specs.Match.{first, area-of, has-block}
+use Rattle.matching.proofs.Counts.{Matches}
 use Rattle.matching.proofs.Matched.{Matched}
 use Rattle.records.specs.Rules.{may-be-unowned}
 use Rattle.picture.specs.Layout.{greatest-priority, hold, greatest-timeout}
 use Rattle.picture.proofs.Members.{spares-size, spares-heap, spares-zero, spares-last}
 use Rattle.sound.specs.Sound.{sound}
 use Rattle.facts.proofs.Sound.{Sizes, Queue, Waits, Owned, Entries, Jobs-fine, Channels-fine, Fits, Tiled, Current, Sound}
-use Rattle.facts.proofs.View.{claims-used, view, sound-again}
+use Rattle.facts.proofs.View.{has-block-used, view, sound-again}
 use Rattle.freeing.specs.Sweep.{named, goes}
 use Rattle.tree.specs.Tree.{tree}
 use Rattle.owners.proofs.Owners.{owners-of}
@@ -134,13 +134,13 @@ module _ (p : List ℕ) (S : Sound p) (t key : ℕ) (top : used p Jobs t ≡ tru
         last = elim [ Jobs ↦ rw (same-last Jobs) (z .last Jobs) | Channels ↦ rw (same-last Channels) (z .last Channels) ];
       }
 
-  claims-was : (t′ : Table) (k : ℕ) → claims q t′ k ≡ true → claims p t′ k ≡ true
-  unfolding claims
-  claims-was t′ k h = let b = both (leb (first t′) k) (used q t′ k) h in rw (b .0, was t′ k (b .1) .0)
+  has-block-was : (t′ : Table) (k : ℕ) → has-block q t′ k ≡ true → has-block p t′ k ≡ true
+  unfolding has-block
+  has-block-was t′ k h = let b = both (leb (first t′) k) (used q t′ k) h in rw (b .0, was t′ k (b .1) .0)
 
-  claims-stays : (t′ : Table) (k : ℕ) → bit (going m c t′) k ≡ false → claims p t′ k ≡ true → claims q t′ k ≡ true
-  unfolding claims
-  claims-stays t′ k b h = let d = both (leb (first t′) k) (used p t′ k) h in rw (d .0, T .stays t′ k b ∙ d .1)
+  has-block-stays : (t′ : Table) (k : ℕ) → bit (going m c t′) k ≡ false → has-block p t′ k ≡ true → has-block q t′ k ≡ true
+  unfolding has-block
+  has-block-stays t′ k b h = let d = both (leb (first t′) k) (used p t′ k) h in rw (d .0, T .stays t′ k b ∙ d .1)
 
   owned-stays : (t′ : Table) (k : ℕ) → used p t′ k ≡ true → bit (going m c t′) k ≡ false → Owned p (may-be-unowned t′) (owner p t′ k) → Owned q (may-be-unowned t′) (owner p t′ k)
   unfolding m c
@@ -151,7 +151,7 @@ module _ (p : List ℕ) (S : Sound p) (t key : ℕ) (top : used p Jobs t ≡ tru
   entries-kept t′ z l E = record {
     unused = λ k f h w u. unused-by k f h w u (bit (going m c t′) k) refl;
     place = λ k u. let v = was t′ k u in rw (T .same t′ k number-field (used-below q t′ k u) (omega arith) (v .1)) (E .place k (v .0));
-    tagged = λ k h. let u = claims-used q t′ k h in let v = was t′ k u in rw (T .same t′ k number-field (used-below q t′ k u) (omega arith) (v .1)) (E .tagged k (claims-was t′ k h));
+    tagged = λ k h. let u = has-block-used q t′ k h in let v = was t′ k u in rw (T .same t′ k number-field (used-below q t′ k u) (omega arith) (v .1)) (E .tagged k (has-block-was t′ k h));
     once = λ i k g h e. let v = was t′ i g in let w = was t′ k h in E .once i k (v .0) (w .0) (rw (T .same t′ i number-field (used-below q t′ i g) (omega arith) (v .1), T .same t′ k number-field (used-below q t′ k h) (omega arith) (w .1)) at e);
     owned = λ k u. let v = was t′ k u in rw (T .same t′ k owner-field (used-below q t′ k u) (omega arith) (v .1)) (owned-stays t′ k (v .0) (v .1) (E .owned k (v .0)));
     given = λ k u. let v = was t′ k u in rw (T .same t′ k number-field (used-below q t′ k u) (omega arith) (v .1), l) (E .given k (v .0));
@@ -344,7 +344,7 @@ module _ (p : List ℕ) (S : Sound p) (t key : ℕ) (top : used p Jobs t ≡ tru
       held-by i w o = ⊎-elim inl (λ x. inr (⊎-elim inl (λ l. inr (live-stays (holder p i) l (not-going p m (extra a r) i (w .busy) (w .left)))) x)) o
 
   -- an entry's block stays if the entry does, and the other way round
-  own-goes : (t′ : Table) (k i : ℕ) → In i (blocks p (area-of t′)) → Own p t′ k i → goes p m (extra a (area-of t′)) i ≡ bit (going m c t′) k
+  own-goes : (t′ : Table) (k i : ℕ) → In i (blocks p (area-of t′)) → Matches p t′ k i → goes p m (extra a (area-of t′)) i ≡ bit (going m c t′) k
   unfolding m c a
   own-goes t′ k i n o = block-goes p S t top other t′ k i n o
 
@@ -355,8 +355,8 @@ module _ (p : List ℕ) (S : Sound p) (t key : ℕ) (top : used p Jobs t ≡ tru
   matched-kept : (t′ : Table) → Matched q t′
   matched-kept t′ = record {
     home = λ k l h.
-        let x = was t′ k (claims-used q t′ k h) in
-        let o = S .matched t′ .home k l (claims-was t′ k h) in
+        let x = was t′ k (has-block-used q t′ k h) in
+        let o = S .matched t′ .home k l (has-block-was t′ k h) in
         let g = own-goes t′ k (o .0) (o .1 .0) (o .1 .1) ∙ x .1 in
         let u = ne-eqb (kind p (o .0)) 0 (kind-in-use t′ (kind p (o .0)) (o .1 .1 .sorts)) in
         (o .0, (back (o .0) (K (area-of t′) .stays (o .0) (o .1 .0) u g), onto k (o .0) l (x .1) (o .1 .0) u g (o .1 .1)));
@@ -371,27 +371,27 @@ module _ (p : List ℕ) (S : Sound p) (t key : ℕ) (top : used p Jobs t ≡ tru
       back : (i : ℕ) → In i (starts q (from p (area-of t′)) (upto p (area-of t′))) → In i (blocks q (area-of t′))
       back i n = rw (same-from (area-of t′), same-upto (area-of t′)) n
 
-      onto : (k i : ℕ) → k < positions t′ → bit (going m c t′) k ≡ false → In i (blocks p (area-of t′)) → free p i ≡ false → goes p m (extra a (area-of t′)) i ≡ false → Own p t′ k i → Own q t′ k i
+      onto : (k i : ℕ) → k < positions t′ → bit (going m c t′) k ≡ false → In i (blocks p (area-of t′)) → free p i ≡ false → goes p m (extra a (area-of t′)) i ≡ false → Matches p t′ k i → Matches q t′ k i
       onto k i l b n u g o =
           let B = block-of p (from p (area-of t′)) (upto p (area-of t′)) (S .tiled (area-of t′) .whole) i n in
           let h = B .least in
           let keep = K (area-of t′) .keeps i n u g in
           record {
-            claim = claims-stays t′ k b (o .claim);
+            has = has-block-stays t′ k b (o .has);
             sorts = keep (i + kind-field) (omega arith) (omega arith) ∙ o .sorts;
             place = T .same t′ k base-field l (omega arith) b ∙ o .place;
             held = T .same t′ k owner-field l (omega arith) b ∙ o .held ∙ sym (keep (i + holder-field) (omega arith) (omega arith));
           }
 
-      down : (k i : ℕ) → In i (blocks q (area-of t′)) → Own q t′ k i → Own p t′ k i
+      down : (k i : ℕ) → In i (blocks q (area-of t′)) → Matches q t′ k i → Matches p t′ k i
       down k i n o =
           let w = as-was (area-of t′) i n (kind-in-use t′ (kind q i) (o .sorts)) in
           let f = w .four in
-          let u = claims-used q t′ k (o .claim) in
+          let u = has-block-used q t′ k (o .has) in
           let x = was t′ k u in
           let l = used-below q t′ k u in
           record {
-            claim = claims-was t′ k (o .claim);
+            has = has-block-was t′ k (o .has);
             sorts = sym (w .same kind-field (omega arith)) ∙ o .sorts;
             place = sym (T .same t′ k base-field l (omega arith) (x .1)) ∙ o .place;
             held = sym (T .same t′ k owner-field l (omega arith) (x .1)) ∙ o .held ∙ w .same holder-field (omega arith);

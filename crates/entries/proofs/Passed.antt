@@ -17,10 +17,10 @@ use Rattle.picture.specs.Layout.{positions}
 use Rattle.picture.specs.Records.{number, used}
 use Rattle.picture.specs.Numbers.{tag}
 use Rattle.picture.specs.declared.Table.{Table}
-use Rattle.matching.specs.Match.{first, claims}
+use Rattle.matching.specs.Match.{first, has-block}
 use Rattle.matching.specs.declared.Walked.the-variants.{Broken, Counted}
 use Rattle.records.specs.Rules.{tags-differ, tag-once}
-use Rattle.records.proofs.Used.{claims-used}
+use Rattle.records.proofs.Used.{has-block-used}
 use Rattle.entries.specs.Entries.{live-fine, blank-fine, record-fine, entries-walked}
 
 module _ (p : List ℕ) (t : Table) where
@@ -32,7 +32,7 @@ module _ (p : List ℕ) (t : Table) where
   pub record Passed (k n : ℕ) (seen : List ℕ) : Type 0 where
     pub few : n ≤ k
     pub fine : every (record-fine p t) k ≡ true
-    pub count : n ≡ count (claims p t) k
+    pub count : n ≡ count (has-block p t) k
     pub room : length seen ≡ 64
     pub noted : (j : ℕ) → j < k → used p t j ≡ true → getD seen (low j) 0 ≡ 1
 
@@ -62,13 +62,13 @@ module _ (p : List ℕ) (t : Table) where
           apart j l true v true w = absurd (eqb-false _ _ e (ap (λ (x : ℕ). getD seen (x % 64) 0) (sym (eqb-true _ _ w)) ∙ q .noted j l v))
 
   pub passed-blank : (k n : ℕ) (seen : List ℕ) → Passed k n seen → used p t k ≡ false → blank-fine p t k ≡ true → Passed (k + 1) n seen
-  unfolding claims
+  unfolding has-block
   passed-blank k n seen q u h =
       let f = q .few in
       record {
         few = omega arith;
         fine = every-next (record-fine p t) k (q .fine) (blank-record k u ∙ h);
-        count = (let z : n ≡ n + 0 = omega arith in z) ∙ count-next (claims p t) k n 0 (q .count) (sym (ap one (fails-right (leb (first t) k) (used p t k) u)));
+        count = (let z : n ≡ n + 0 = omega arith in z) ∙ count-next (has-block p t) k n 0 (q .count) (sym (ap one (fails-right (leb (first t) k) (used p t k) u)));
         room = q .room;
         noted = λ j l v. ⊎-elim
             (λ (e : j ≡ k). absurd (false-true (sym u ∙ ap (used p t) (sym e) ∙ v)))
@@ -83,7 +83,7 @@ module _ (p : List ℕ) (t : Table) where
       record {
         few = omega arith;
         fine = every-next (record-fine p t) k (q .fine) (rw (live-record k u, h, once k n seen q u o));
-        count = count-next (claims p t) k n r (q .count) (w ∙ ap one (sym (claims-used p t k u)));
+        count = count-next (has-block p t) k n r (q .count) (w ∙ ap one (sym (has-block-used p t k u)));
         room = length-set seen (low k) 1 ∙ q .room;
         noted = λ j l v. seen-then j l v (eqb (low j) (low k)) refl;
       }

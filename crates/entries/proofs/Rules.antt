@@ -15,9 +15,9 @@ use Rattle.picture.specs.Records.{field, base, number, used}
 use Rattle.picture.specs.declared.Table.{Table}
 use Rattle.picture.specs.declared.Table.the-variants.{Jobs, Channels}
 use Rattle.picture.proofs.Records.{shared}
-use Rattle.matching.specs.Match.{first, claims}
-use Rattle.records.specs.Rules.{zero-base, priority-within, accumulated-within, timeout-within, ends-in-one, blank, positioned, zero-exists, tag-within, tag-once, owner-live, owner-older, zero-unowned, tag-given, waits-well, idle-zero}
-use Rattle.records.proofs.Used.{claims-used}
+use Rattle.matching.specs.Match.{first, has-block}
+use Rattle.records.specs.Rules.{zero-base, priority-within, accumulated-within, timeout-within, ends-in-one, blank, positioned, zero-exists, tag-within, tag-once, owner-live, owner-older, zero-unowned, tag-given, wait-allowed, idle-zero}
+use Rattle.records.proofs.Used.{has-block-used}
 use Rattle.entries.specs.Entries.{entry-fine, zero-fine, live-fine, blank-fine, record-fine}
 
 -- the rules of a record of either table, of a job and of a channel
@@ -38,7 +38,7 @@ pub record Job (p : List ℕ) (k : ℕ) : Type 0 where
   pub accumulated : accumulated-within p k ≡ true
   pub timeout : timeout-within p k ≡ true
   pub older : owner-older p k ≡ true
-  pub waits : waits-well p k ≡ true
+  pub waits : wait-allowed p k ≡ true
   pub idle : idle-zero p k ≡ true
 
 pub record Channel (p : List ℕ) (k : ℕ) : Type 0 where
@@ -83,7 +83,7 @@ module _ (p : List ℕ) (t : Table) (k : ℕ) where
 
   -- not in use: zeros keep them all
   unused-entry : used p t k ≡ false → zeros ≡ true → Entry p t k
-  unfolding blank positioned tag-within tag-once owner-live tag-given claims
+  unfolding blank positioned tag-within tag-once owner-live tag-given has-block
   unused-entry u z = record {
     unused = rw (u, z);
     place = rw u;
@@ -121,7 +121,7 @@ module _ (p : List ℕ) (k : ℕ) where
   job-live j = rw (entry-used p Jobs k (j .entry), j .nought, j .base, j .unowned, j .priority, j .accumulated, j .timeout, j .older, j .waits, j .idle)
 
   blank-job : used p Jobs k ≡ false → 1 ≤ k → zeros p Jobs k ≡ true → Job p k
-  unfolding zero-exists zero-base zero-unowned priority-within accumulated-within timeout-within owner-older waits-well idle-zero
+  unfolding zero-exists zero-base zero-unowned priority-within accumulated-within timeout-within owner-older wait-allowed idle-zero
   blank-job u l z =
       let n : eqb k 0 ≡ false = ne-eqb k 0 (λ e. omega arith) in
       let nought = field-zero p Jobs k z in
@@ -180,9 +180,9 @@ module _ (p : List ℕ) (k : ℕ) where
   past-first Jobs r c = ⊎-elim (at-least k) (λ (e : eqb (base p Jobs k) 0 ≡ true). let z = eqb-true (base p Jobs k) 0 e in absurd (omega arith)) (either _ _ (job-is r .base))
 
   -- a fine record that says where a block is: an entry that has a block
-  pub placed-claims : (t : Table) → record-fine p t k ≡ true → 0 < base p t k → claims p t k ≡ true
-  placed-claims t h b = go (used p t k) refl
+  pub placed-has-block : (t : Table) → record-fine p t k ≡ true → 0 < base p t k → has-block p t k ≡ true
+  placed-has-block t h b = go (used p t k) refl
     where
-      go : (a : Bool) → used p t k ≡ a → claims p t k ≡ true
-      go true u = claims-used p t k u ∙ le-leb (first t) k (past-first t h b)
+      go : (a : Bool) → used p t k ≡ a → has-block p t k ≡ true
+      go true u = has-block-used p t k u ∙ le-leb (first t) k (past-first t h b)
       go false u = let z = field-zero p t k (blank-then p t k u h .1) 2 (shared t 2 (omega arith)) in absurd (omega arith)

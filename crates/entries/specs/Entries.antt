@@ -8,10 +8,10 @@ use Rattle.picture.specs.Layout.{positions, width}
 use Rattle.picture.specs.Records.{field, used}
 use Rattle.picture.specs.declared.Table.{Table}
 use Rattle.picture.specs.declared.Table.the-variants.{Jobs, Channels}
-use Rattle.matching.specs.Match.{first, claims}
+use Rattle.matching.specs.Match.{first, has-block}
 use Rattle.matching.specs.declared.Walked.{Walked}
 use Rattle.matching.specs.declared.Walked.the-variants.{Broken, Counted}
-use Rattle.records.specs.Rules.{zero-base, priority-within, accumulated-within, timeout-within, ends-in-one, positioned, zero-exists, tag-within, tag-once, owner-live, owner-older, zero-unowned, tag-given, waits-well, idle-zero}
+use Rattle.records.specs.Rules.{zero-base, priority-within, accumulated-within, timeout-within, ends-in-one, positioned, zero-exists, tag-within, tag-once, owner-live, owner-older, zero-unowned, tag-given, wait-allowed, idle-zero}
 
 -- the rules that a record of either table keeps
 unfoldable pub entry-fine : List ℕ → Table → ℕ → Bool
@@ -24,7 +24,7 @@ zero-fine p k = zero-exists p k && (zero-base p k && zero-unowned p k)
 -- the rules of a record in use, but that its tag is used once
 unfoldable pub live-fine : List ℕ → Table → ℕ → Bool
 live-fine p Jobs k = entry-fine p Jobs k && (zero-fine p k && (priority-within p k && (accumulated-within p k && (timeout-within p k
-    && (owner-older p k && (waits-well p k && idle-zero p k))))))
+    && (owner-older p k && (wait-allowed p k && idle-zero p k))))))
 live-fine p Channels k = entry-fine p Channels k && ends-in-one p k
 
 -- a record not in use is all zero, and not job 0's
@@ -37,4 +37,4 @@ record-fine p t k = cond (used p t k) (live-fine p t k && tag-once p t k) (blank
 
 -- a walk over the table: broken, or how many entries have a block
 unfoldable pub entries-walked : List ℕ → Table → Walked
-entries-walked p t = cond (every (record-fine p t) (positions t)) (Counted (count (claims p t) (positions t))) Broken
+entries-walked p t = cond (every (record-fine p t) (positions t)) (Counted (count (has-block p t) (positions t))) Broken

@@ -64,7 +64,7 @@ pub fn is_job_fine(p: &[u32], k: usize) -> bool
     if !job_records::owner_older(p, k) {
         return false;
     }
-    if !job_records::waits_well(p, k) {
+    if !job_records::wait_allowed(p, k) {
         return false;
     }
     job_records::idle_zero(p, k)

@@ -16,7 +16,7 @@ use Rattle.picture.specs.declared.Area.{Area}
 use Rattle.picture.specs.declared.Area.the-variants.{Heap, Transient}
 use Rattle.blocks.specs.Header.{size, kind, queue-kind, job-kind, holder, start, queue-length, queue-oldest, queue-count, queue-zero, rounded}
 use Rattle.blocks.specs.Walk.{good, next, blocks}
-use Rattle.matching.specs.Match.{claims}
+use Rattle.matching.specs.Match.{has-block}
 use Rattle.matching.proofs.Matched.{Matched}
 use Rattle.records.specs.Rules.{may-be-unowned}
 use Rattle.picture.specs.Layout.{greatest-priority, hold, greatest-timeout}
@@ -24,16 +24,16 @@ use Rattle.areas.specs.Rules.{longest-queue}
 
 -- the longwords before the tables
 pub record Sizes (p : List ℕ) : Type 0 where
-  -- size-right
+  -- size-stated
   pub long : word p size-word ≡ length p
   pub least : least-size ≤ length p
   pub most : length p ≤ greatest-size
   pub fours : length p % 4 ≡ 0
-  -- heap-right
+  -- heap-stated
   pub heap-fours : word p heap-word % 4 ≡ 0
   pub heap-least : 4 ≤ word p heap-word
   pub heap-most : heap-base + word p heap-word + 4 ≤ length p
-  -- zero-right
+  -- seven-zero
   pub nought : word p zero-word ≡ 0
   -- last-within
   pub last : (t : Table) → word p (last-word t) ≤ greatest-tag
@@ -47,7 +47,7 @@ pub record Queue (p : List ℕ) (i : ℕ) : Type 0 where
   pub held : queue-count p i ≤ queue-length p i
   pub nought : queue-zero p i ≡ 0
 
--- waits-well: whom a job waits for
+-- wait-allowed: whom a job waits for
 pub record Waits (p : List ℕ) (k : ℕ) : Type 0 where
   pub alive : live p Jobs (waited-for p k) ≡ true
   pub other : waited-for p k ≡ number p Jobs k → ⊥
@@ -64,7 +64,7 @@ pub record Entries (p : List ℕ) (t : Table) : Type 0 where
   -- positioned
   pub place : (k : ℕ) → used p t k ≡ true → position (number p t k) ≡ k
   -- tag-within
-  pub tagged : (k : ℕ) → claims p t k ≡ true → (1 ≤ tag (number p t k)) × (tag (number p t k) ≤ greatest-tag)
+  pub tagged : (k : ℕ) → has-block p t k ≡ true → (1 ≤ tag (number p t k)) × (tag (number p t k) ≤ greatest-tag)
   -- tag-once
   pub once : (j k : ℕ) → used p t j ≡ true → used p t k ≡ true → tag (number p t j) ≡ tag (number p t k) → j ≡ k
   -- owner-live
@@ -90,7 +90,7 @@ pub record Jobs-fine (p : List ℕ) : Type 0 where
   pub frames : (k : ℕ) → k < positions Jobs → (timeout p k ≤ greatest-timeout) ⊎ (timeout p k ≡ nobody)
   -- owner-older
   pub older : (k : ℕ) → used p Jobs k ≡ true → (owner p Jobs k ≡ nobody) ⊎ (tag (owner p Jobs k) < tag (number p Jobs k))
-  -- waits-well
+  -- wait-allowed
   pub waits : (k : ℕ) → k < positions Jobs → (waited-for p k ≡ 0) ⊎ Waits p k
   -- idle-zero
   pub idle : (k : ℕ) → k < positions Jobs → (accumulated p k ≡ 0) ⊎ (ready p k ≡ true)
@@ -132,6 +132,6 @@ pub record Sound (p : List ℕ) : Type 0 where
   pub jobs : Jobs-fine p
   pub channels : Channels-fine p
   pub tiled : (a : Area) → Tiled p a
-  -- claimed, housed
+  -- block-matched, entry-matched
   pub matched : (t : Table) → Matched p t
   pub current : Current p

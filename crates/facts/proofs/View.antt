@@ -23,26 +23,26 @@ use Rattle.picture.proofs.Records.{used-below}
 use Rattle.blocks.specs.Header.{size, kind, kind-of, queue-kind, job-kind, free, holder}
 use Rattle.blocks.specs.Walk.{good, next, blocks}
 use Rattle.blocks.proofs.Walk.{good-is, is-good}
-use Rattle.matching.specs.Match.{area-of, first, claims, claimed, housed}
-use Rattle.matching.proofs.Matched.{Matched, matched, matched-housed, matched-claimed}
-use Rattle.records.specs.Rules.{may-be-unowned, zero-base, priority-within, accumulated-within, timeout-within, ends-in-one, blank, positioned, zero-exists, tag-within, tags-differ, tag-once, owner-live, owner-older, zero-unowned, tag-given, waits-well, idle-zero}
+use Rattle.matching.specs.Match.{area-of, first, has-block, block-matched, entry-matched}
+use Rattle.matching.proofs.Matched.{Matched, matched, matched-entries, matched-blocks}
+use Rattle.records.specs.Rules.{may-be-unowned, zero-base, priority-within, accumulated-within, timeout-within, ends-in-one, blank, positioned, zero-exists, tag-within, tags-differ, tag-once, owner-live, owner-older, zero-unowned, tag-given, wait-allowed, idle-zero}
 use Rattle.picture.specs.Layout.{greatest-timeout}
 use Rattle.areas.specs.Rules.{length-whole, kind-known, start-zero, free-blank, queue-room, tiles, untouched, kind-fits, holder-live}
-use Rattle.sound.specs.Whole.{size-right, zero-right, heap-right, last-within, current-ready}
+use Rattle.sound.specs.Whole.{size-stated, seven-zero, heap-stated, last-within, current-ready}
 use Rattle.sound.specs.Rule.{Rule}
 use Rattle.sound.specs.Sound.{sound}
 use Rattle.sound.proofs.Holds.{Holds, sound-holds, sound-by}
 use Rattle.facts.proofs.Sound.{Sizes, Queue, Waits, Owned, Entries, Jobs-fine, Channels-fine, Fits, Tiled, Sound}
 
 -- an entry with a block is in use
-pub claims-used : (p : List ℕ) (t : Table) (k : ℕ) → claims p t k ≡ true → used p t k ≡ true
-unfolding claims
-claims-used p t k h = both (leb (first t) k) (used p t k) h .1
+pub has-block-used : (p : List ℕ) (t : Table) (k : ℕ) → has-block p t k ≡ true → used p t k ≡ true
+unfolding has-block
+has-block-used p t k h = both (leb (first t) k) (used p t k) h .1
 
 -- from a test to its fact, rule by rule
 module _ (p : List ℕ) where
-  sizes-by : size-right p ≡ true → zero-right p ≡ true → heap-right p ≡ true → ((t : Table) → last-within t p ≡ true) → Sizes p
-  unfolding size-right zero-right heap-right last-within
+  sizes-by : size-stated p ≡ true → seven-zero p ≡ true → heap-stated p ≡ true → ((t : Table) → last-within t p ≡ true) → Sizes p
+  unfolding size-stated seven-zero heap-stated last-within
   sizes-by size nought heap last =
       let a = both (eqb (word p size-word) (length p)) _ size in
       let b = both (leb least-size (length p)) _ (a .1) in
@@ -79,7 +79,7 @@ module _ (p : List ℕ) where
       (λ (l : k ≤ j). ⊎-elim (λ (m : k < j). absurd (below t k j (r j (used-below p t j u)) m v u (sym e))) (λ (m : j ≤ k). omega arith) (lt-or-ge k j))
       (lt-or-ge j k)
 
-  tagged-by : (t : Table) (k : ℕ) → tag-within p t k ≡ true → claims p t k ≡ true → (1 ≤ tag (number p t k)) × (tag (number p t k) ≤ greatest-tag)
+  tagged-by : (t : Table) (k : ℕ) → tag-within p t k ≡ true → has-block p t k ≡ true → (1 ≤ tag (number p t k)) × (tag (number p t k) ≤ greatest-tag)
   unfolding tag-within
   tagged-by t k h c = let a = both _ _ (unless _ _ h c) in (leb-true _ _ (a .0), leb-true _ _ (a .1))
 
@@ -93,14 +93,14 @@ module _ (p : List ℕ) where
   entries-by t a b c d e f = record {
     unused = λ k g l m u. unused-by t k g (a k l) m u;
     place = λ k u. eqb-true _ _ (unless _ _ (b k (used-below p t k u)) u);
-    tagged = λ k h. tagged-by t k (c k (used-below p t k (claims-used p t k h))) h;
+    tagged = λ k h. tagged-by t k (c k (used-below p t k (has-block-used p t k h))) h;
     once = once-by t d;
     owned = λ k u. owned-by t k (e k (used-below p t k u)) u;
     given = λ k u. leb-true _ _ (unless _ _ (f k (used-below p t k u)) u);
   }
 
-  waits-by : (k : ℕ) → waits-well p k ≡ true → (waited-for p k ≡ 0) ⊎ Waits p k
-  unfolding waits-well
+  waits-by : (k : ℕ) → wait-allowed p k ≡ true → (waited-for p k ≡ 0) ⊎ Waits p k
+  unfolding wait-allowed
   waits-by k h = ⊎-elim
       (λ e. inl (eqb-true _ _ e))
       (λ e. let a = both _ _ e in let b = both _ _ (a .1) in inr (record { alive = a .0; other = eqb-false _ _ (not-true _ (b .0)); forever = eqb-true _ _ (b .1) }))
@@ -160,7 +160,7 @@ view p s =
     let zero = both _ _ (unless (eqb 0 0) _ (h Rule.zero-exists 0 (omega arith)) refl) in
     let entries : (t : Table) → Entries p t = λ t. entries-by p t (h (Rule.blank t)) (h (Rule.positioned t)) (h (Rule.tag-within t)) (h (Rule.tag-once t)) (h (Rule.owner-live t)) (h (Rule.tag-given t)) in
     record {
-      sizes = sizes-by p (h Rule.size-right) (h Rule.zero-right) (h Rule.heap-right) (λ t. h (Rule.last-within t));
+      sizes = sizes-by p (h Rule.size-stated) (h Rule.seven-zero) (h Rule.heap-stated) (λ t. h (Rule.last-within t));
       jobs = record {
         entries = entries Jobs;
         zero-lives = zero .0;
@@ -171,7 +171,7 @@ view p s =
         gained = λ k l. leb-true _ _ (h Rule.accumulated-within k l);
         frames = λ k l. ⊎-elim (λ e. inl (leb-true _ _ e)) (λ e. inr (eqb-true _ _ e)) (either _ _ (h Rule.timeout-within k l));
         older = λ k u. ⊎-elim (λ e. inl (eqb-true _ _ e)) (λ e. inr (ltb-true _ _ e)) (either _ _ (unless _ _ (h Rule.owner-older k (used-below p Jobs k u)) u));
-        waits = λ k l. waits-by p k (h Rule.waits-well k l);
+        waits = λ k l. waits-by p k (h Rule.wait-allowed k l);
         idle = λ k l. ⊎-elim (λ e. inl (eqb-true _ _ e)) inr (either _ _ (h Rule.idle-zero k l));
       };
       channels = record {
@@ -179,7 +179,7 @@ view p s =
         one = λ k u. eqb-true _ _ (unless _ _ (h Rule.ends-in-one k (used-below p Channels k u)) u);
       };
       tiled = λ a. tiled-by p a (h Rule.length-whole a) (h Rule.kind-known a) (h Rule.start-zero a) (h Rule.free-blank a) (h Rule.queue-room a) (h Rule.tiles a) (h Rule.untouched a) (h Rule.kind-fits a) (h Rule.holder-live a);
-      matched = λ t. matched p t (h (Rule.claimed t) (area-of t)) (h (Rule.housed t));
+      matched = λ t. matched p t (h (Rule.block-matched t) (area-of t)) (h (Rule.entry-matched t));
       current = ⊎-elim (λ e. inl (eqb-true _ _ e)) (λ e. let b = both _ _ e in inr (b .0, b .1)) (either _ _ (h Rule.current-ready));
     }
 
@@ -221,7 +221,7 @@ module _ (p : List ℕ) where
 
     is-tagged : (k : ℕ) → k < positions t → tag-within p t k ≡ true
     unfolding tag-within
-    is-tagged k l = when (claims p t k) _ (λ c. let g = E .tagged k c in rw (le-leb _ _ (g .0), le-leb _ _ (g .1)))
+    is-tagged k l = when (has-block p t k) _ (λ c. let g = E .tagged k c in rw (le-leb _ _ (g .0), le-leb _ _ (g .1)))
 
     is-once : (k : ℕ) → k < positions t → tag-once p t k ≡ true
     unfolding tag-once tags-differ
@@ -267,8 +267,8 @@ module _ (p : List ℕ) where
     unfolding owner-older
     is-older k l = when (used p Jobs k) _ (λ u. ⊎-elim (λ e. or-left (eqb (owner p Jobs k) nobody) _ (eq-eqb _ _ e)) (λ e. or-right (eqb (owner p Jobs k) nobody) _ (lt-ltb _ _ e)) (J .older k u))
 
-    is-waits : (k : ℕ) → k < positions Jobs → waits-well p k ≡ true
-    unfolding waits-well
+    is-waits : (k : ℕ) → k < positions Jobs → wait-allowed p k ≡ true
+    unfolding wait-allowed
     is-waits k l = ⊎-elim
         (λ e. or-left (eqb (waited-for p k) 0) _ (eq-eqb _ _ e))
         (λ (w : Waits p k). or-right (eqb (waited-for p k) 0) (live p Jobs (waited-for p k) && (not (eqb (waited-for p k) (number p Jobs k)) && eqb (timeout p k) nobody)) (rw (w .alive, ne-eqb _ _ (w .other), eq-eqb _ _ (w .forever))))
@@ -340,11 +340,11 @@ module _ (p : List ℕ) where
   elsewhere Channels Transient i (inl e) = inl (λ q. omega arith)
   elsewhere Channels Transient i (inr e) = inl (λ q. omega arith)
 
-  claimed-by : (t : Table) (a : Area) → Matched p t → Tiled p a → (i : ℕ) → In i (blocks p a) → claimed p t i ≡ true
-  unfolding claimed
-  claimed-by t a M T i m = ⊎-elim
+  blocks-by : (t : Table) (a : Area) → Matched p t → Tiled p a → (i : ℕ) → In i (blocks p a) → block-matched p t i ≡ true
+  unfolding block-matched
+  blocks-by t a M T i m = ⊎-elim
       (λ (n : kind p i ≡ kind-of t → ⊥). rw (ne-eqb (kind p i) (kind-of t) n))
-      (λ (e : a ≡ area-of t). matched-claimed p t M i (subst (λ (b : Area). In i (blocks p b)) e m))
+      (λ (e : a ≡ area-of t). matched-blocks p t M i (subst (λ (b : Area). In i (blocks p b)) e m))
       (elsewhere t a i (T .fits i m))
 
 -- the facts give every rule by its name
@@ -353,16 +353,16 @@ module _ (p : List ℕ) (S : Sound p) where
   entries-in Jobs = S .jobs .entries
   entries-in Channels = S .channels .entries
 
-  is-size : size-right p ≡ true
-  unfolding size-right
+  is-size : size-stated p ≡ true
+  unfolding size-stated
   is-size = let z = S .sizes in rw (eq-eqb _ _ (z .long), le-leb _ _ (z .least), le-leb _ _ (z .most), eq-eqb _ _ (z .fours))
 
-  is-nought : zero-right p ≡ true
-  unfolding zero-right
+  is-nought : seven-zero p ≡ true
+  unfolding seven-zero
   is-nought = eq-eqb _ _ (S .sizes .nought)
 
-  is-heap : heap-right p ≡ true
-  unfolding heap-right
+  is-heap : heap-stated p ≡ true
+  unfolding heap-stated
   is-heap = let z = S .sizes in rw (eq-eqb _ _ (z .heap-fours), le-leb _ _ (z .heap-least), le-leb (heap-base + word p heap-word + 4) (word p size-word) (rw (z .long) (z .heap-most)))
 
   is-last : (t : Table) → last-within t p ≡ true
@@ -377,9 +377,9 @@ module _ (p : List ℕ) (S : Sound p) where
       (S .current)
 
   by-name : (r : Rule) → Holds p r
-  by-name Rule.size-right = is-size
-  by-name Rule.zero-right = is-nought
-  by-name Rule.heap-right = is-heap
+  by-name Rule.size-stated = is-size
+  by-name Rule.seven-zero = is-nought
+  by-name Rule.heap-stated = is-heap
   by-name Rule.zero-base = is-zero-base p (S .jobs)
   by-name Rule.priority-within = is-urgent p (S .jobs)
   by-name Rule.accumulated-within = is-gained p (S .jobs)
@@ -398,8 +398,8 @@ module _ (p : List ℕ) (S : Sound p) where
   by-name Rule.tiles = λ a. is-tile p a (S .tiled a)
   by-name Rule.untouched = λ a. is-lone p a (S .tiled a)
   by-name Rule.kind-fits = λ a i m. fits-is p a i (S .tiled a .fits i m)
-  by-name (Rule.claimed t) = λ a. claimed-by p t a (S .matched t) (S .tiled a)
-  by-name (Rule.housed t) = matched-housed p t (S .matched t)
+  by-name (Rule.block-matched t) = λ a. blocks-by p t a (S .matched t) (S .tiled a)
+  by-name (Rule.entry-matched t) = matched-entries p t (S .matched t)
   by-name (Rule.owner-live t) = is-owned p t (entries-in t)
   by-name Rule.holder-live = λ a. is-held p a (S .tiled a)
   by-name Rule.owner-older = is-older p (S .jobs)
@@ -407,7 +407,7 @@ module _ (p : List ℕ) (S : Sound p) where
   by-name (Rule.tag-given t) = is-given p t (entries-in t)
   by-name (Rule.last-within t) = is-last t
   by-name Rule.current-ready = is-current
-  by-name Rule.waits-well = is-waits p (S .jobs)
+  by-name Rule.wait-allowed = is-waits p (S .jobs)
   by-name Rule.idle-zero = is-idle p (S .jobs)
 
   -- so such a picture is sound

@@ -9,7 +9,7 @@ use borrow.Author.Tests.{leb-true, eqb-true, eq-eqb, ne-eqb}
 use Rattle.words.proofs.Tests.{both, fails-left}
 use Rattle.picture.specs.Layout.{least-size, greatest-size, heap-base}
 use Rattle.picture.specs.Keys.{done, out-of-range}
-use Rattle.sound.specs.Whole.{size-good, heap-good}
+use Rattle.sound.specs.Whole.{size-within, heap-within}
 use Rattle.fresh.specs.Fresh.{fresh, fresh-good, fresh-key, fresh-picture}
 
 pub record Sizes (l n h : ℕ) : Type 0 where
@@ -24,8 +24,8 @@ pub record Sizes (l n h : ℕ) : Type 0 where
 pub sizes : (l n h : ℕ) → fresh-good l n h ≡ true → Sizes l n h
 unfolding fresh-good
 sizes l n h g =
-    let a = both (eqb l n) (size-good n && heap-good n h) g in
-    let b = both (size-good n) (heap-good n h) (a .1) in
+    let a = both (eqb l n) (size-within n && heap-within n h) g in
+    let b = both (size-within n) (heap-within n h) (a .1) in
     let c = both (leb least-size n) (leb n greatest-size && eqb (n % 4) 0) (b .0) in
     let d = both (leb n greatest-size) (eqb (n % 4) 0) (c .1) in
     let e = both (eqb (h % 4) 0) (leb 4 h && leb (heap-base + h + 4) n) (b .1) in
@@ -55,14 +55,14 @@ module _ (l n h : ℕ) where
   unfolding fresh-good
   other-length d = rw (ne-eqb l n d)
 
-  pub bad-size : l ≡ n → size-good n ≡ false → fresh-good l n h ≡ false
+  pub bad-size : l ≡ n → size-within n ≡ false → fresh-good l n h ≡ false
   unfolding fresh-good
-  bad-size e g = rw (eq-eqb l n e) (fails-left (size-good n) (heap-good n h) g)
+  bad-size e g = rw (eq-eqb l n e) (fails-left (size-within n) (heap-within n h) g)
 
-  pub bad-heap : l ≡ n → size-good n ≡ true → heap-good n h ≡ false → fresh-good l n h ≡ false
+  pub bad-heap : l ≡ n → size-within n ≡ true → heap-within n h ≡ false → fresh-good l n h ≡ false
   unfolding fresh-good
-  bad-heap e g b = rw (eq-eqb l n e) (ap (λ (x : Bool). x && heap-good n h) g ∙ b)
+  bad-heap e g b = rw (eq-eqb l n e) (ap (λ (x : Bool). x && heap-within n h) g ∙ b)
 
-  pub all-good : l ≡ n → size-good n ≡ true → heap-good n h ≡ true → fresh-good l n h ≡ true
+  pub all-good : l ≡ n → size-within n ≡ true → heap-within n h ≡ true → fresh-good l n h ≡ true
   unfolding fresh-good
-  all-good e g b = rw (eq-eqb l n e) (ap (λ (x : Bool). x && heap-good n h) g ∙ b)
+  all-good e g b = rw (eq-eqb l n e) (ap (λ (x : Bool). x && heap-within n h) g ∙ b)

@@ -22,8 +22,8 @@ use Rattle.picture.proofs.Members.{Holds, Spares, holds-low, spares-size, spare
 use Rattle.blocks.specs.Header.{header-width, kind-field, holder-field, start-field, size, kind, kind-of}
 use Rattle.blocks.specs.Walk.{good, next, starts, blocks}
 use Rattle.blocks.proofs.Walk.{Good, good-is, next-good, starts-end, starts-more}
-use Rattle.matching.specs.Match.{first, area-of, claims}
-use Rattle.matching.proofs.Counts.{Own}
+use Rattle.matching.specs.Match.{first, area-of, has-block}
+use Rattle.matching.proofs.Counts.{Matches}
 use Rattle.matching.proofs.Matched.{Matched}
 use Rattle.sound.specs.Sound.{sound}
 use Rattle.facts.proofs.Sound.{Sound, Entries, Jobs-fine, Channels-fine, Tiled, Fits}
@@ -210,10 +210,10 @@ module _ (n h : ℕ) (g : Sizes n n h) where
           let v : next q i (upto q a) ≡ upto q a = ap (λ (j : ℕ). next q j (upto q a)) e ∙ next-good q (from q a) (upto q a) w ∙ y in
           omega arith
 
-  nothing-claims : (t : Table) (k : ℕ) → claims q t k ≡ true → ⊥
-  unfolding claims
-  nothing-claims Jobs k c = let b = both (leb 1 k) (used q Jobs k) c in let l = leb-true 1 k (b .0) in let z = jobs-used k (b .1) in omega arith
-  nothing-claims Channels k c = no-channel k (both (leb 0 k) (used q Channels k) c .1)
+  nothing-has-block : (t : Table) (k : ℕ) → has-block q t k ≡ true → ⊥
+  unfolding has-block
+  nothing-has-block Jobs k c = let b = both (leb 1 k) (used q Jobs k) c in let l = leb-true 1 k (b .0) in let z = jobs-used k (b .1) in omega arith
+  nothing-has-block Channels k c = no-channel k (both (leb 0 k) (used q Channels k) c .1)
 
   kind-positive : (t : Table) → kind-of t ≡ 0 → ⊥
   kind-positive Jobs e = omega arith
@@ -221,9 +221,9 @@ module _ (n h : ℕ) (g : Sizes n n h) where
 
   matched : (t : Table) → Matched q t
   matched t = record {
-    home = λ k l c. absurd (nothing-claims t k c);
+    home = λ k l c. absurd (nothing-has-block t k c);
     heir = λ i m e. absurd (kind-positive t (sym e ∙ kind-free (area-of t) i m));
-    apart = λ j k i a b m v w. absurd (nothing-claims t j (v .claim));
+    apart = λ j k i a b m v w. absurd (nothing-has-block t j (v .has));
   }
 
   job-entries : Entries q Jobs
@@ -233,7 +233,7 @@ module _ (n h : ℕ) (g : Sizes n n h) where
         (λ (o : k ≤ 0). let z : k ≡ 0 = omega arith in absurd (false-true (sym (subst (λ (x : ℕ). used q Jobs x ≡ false) z u) ∙ zero-used)))
         (lt-or-ge 0 k);
     place = λ k u. let z = jobs-used k u in rw (z, field-zero 0 number-field (omega arith) (omega arith) (λ e. omega arith) (λ e. omega arith));
-    tagged = λ k c. absurd (nothing-claims Jobs k c);
+    tagged = λ k c. absurd (nothing-has-block Jobs k c);
     once = λ j k u v e. let y = jobs-used j u in let z = jobs-used k v in omega arith;
     owned = λ k u. let z = jobs-used k u in inl (refl, rw z (at .owner));
     given = λ k u. let z = jobs-used k u in rw (z, field-zero 0 number-field (omega arith) (omega arith) (λ e. omega arith) (λ e. omega arith)) (omega arith);
@@ -243,7 +243,7 @@ module _ (n h : ℕ) (g : Sizes n n h) where
   channel-entries = record {
     unused = λ k f l m u. blank-field Channels k f l m (λ e. omega arith) (λ e. omega arith);
     place = λ k u. absurd (no-channel k u);
-    tagged = λ k c. absurd (nothing-claims Channels k c);
+    tagged = λ k c. absurd (nothing-has-block Channels k c);
     once = λ j k u v e. absurd (no-channel j u);
     owned = λ k u. absurd (no-channel k u);
     given = λ k u. absurd (no-channel k u);

@@ -10,7 +10,7 @@ use Rattle.picture.specs.Layout.{nobody, size-word, heap-word, heap-base}
 use Rattle.picture.specs.Records.{slot, owner-field, priority-field, with-members}
 use Rattle.picture.specs.Keys.{done, out-of-range}
 use Rattle.picture.specs.declared.Table.the-variants.{Jobs}
-use Rattle.sound.specs.Whole.{size-good, heap-good}
+use Rattle.sound.specs.Whole.{size-within, heap-within}
 
 -- job 0 starts at this priority
 abbrev pub first-priority : ℕ
@@ -30,7 +30,7 @@ fresh n h =
 
 -- "A bad N or H, or a lent length other than N, answers -4 and writes nothing."
 unfoldable pub fresh-good : ℕ → ℕ → ℕ → Bool
-fresh-good length n h = eqb length n && (size-good n && heap-good n h)
+fresh-good length n h = eqb length n && (size-within n && heap-within n h)
 
 unfoldable pub fresh-key : List ℕ → ℕ → ℕ → ℤ
 fresh-key p n h = cond (fresh-good (length p) n h) done out-of-range

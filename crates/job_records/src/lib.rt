@@ -17,7 +17,7 @@ ghost use Rattle.picture.specs.Layout.{positions, width, heap-base as heapBase}
 ghost use Rattle.picture.specs.Records.{field, used};
 ghost use Rattle.picture.specs.declared.Table.the-variants.{Jobs};
 ghost use Rattle.records.specs.Rules.{zero-base as zeroBase, priority-within as priorityWithin, accumulated-within as accumulatedWithin, timeout-within as timeoutWithin};
-ghost use Rattle.records.specs.Rules.{zero-exists as zeroExists, owner-older as ownerOlder, zero-unowned as zeroUnowned, waits-well as waitsWell, idle-zero as idleZero};
+ghost use Rattle.records.specs.Rules.{zero-exists as zeroExists, owner-older as ownerOlder, zero-unowned as zeroUnowned, wait-allowed as waitAllowed, idle-zero as idleZero};
 
 // Job 0 has block base 0.
 pub fn zero_base(p: &[u32], k: usize) -> bool
@@ -93,9 +93,9 @@ pub fn zero_unowned(p: &[u32], k: usize) -> bool
 }
 
 // A job waits for a live job other than 0 or itself, with timeout -1.
-pub fn waits_well(p: &[u32], k: usize) -> bool
+pub fn wait_allowed(p: &[u32], k: usize) -> bool
     requires { ⌜ (heapBase ≤ length (now p)) × (k < positions Jobs) ⌝ }
-    ensures { λ r. ⌜ r ≡ waitsWell (now (p .entry)) k ⌝ }
+    ensures { λ r. ⌜ r ≡ waitAllowed (now (p .entry)) k ⌝ }
 {
     let waited = field_of(p, Table::Jobs, k, picture::WAIT);
     if waited == 0 {

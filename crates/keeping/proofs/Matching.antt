@@ -11,14 +11,14 @@ use Rattle.picture.specs.Records.{owner, base}
 use Rattle.picture.specs.declared.Table.{Table}
 use Rattle.blocks.specs.Header.{kind, kind-of, holder}
 use Rattle.blocks.specs.Walk.{blocks}
-use Rattle.matching.specs.Match.{area-of, claims}
-use Rattle.matching.proofs.Counts.{Own}
+use Rattle.matching.specs.Match.{area-of, has-block}
+use Rattle.matching.proofs.Counts.{Matches}
 use Rattle.matching.proofs.Matched.{Matched}
 
 -- the entry at position k has its block, base and owner as before
 pub record Still (p q : List ℕ) (t : Table) (k : ℕ) : Type 0 where
-  pub before : claims p t k ≡ true
-  pub now-too : claims q t k ≡ true
+  pub before : has-block p t k ≡ true
+  pub now-too : has-block q t k ≡ true
   pub base-as-was : base q t k ≡ base p t k
   pub owner-as-was : owner q t k ≡ owner p t k
 
@@ -31,11 +31,11 @@ pub record Stands (p q : List ℕ) (t : Table) (i : ℕ) : Type 0 where
 
 -- New k i: the entry at k and its block at i are new
 pub record Rematched (p q : List ℕ) (t : Table) (New : ℕ → ℕ → Type 0) : Type 0 where
-  pub entries : (k : ℕ) → k < positions t → claims q t k ≡ true → Still p q t k ⊎ ((i : ℕ) × New k i)
-  pub homes : (k i : ℕ) → Still p q t k → In i (blocks p (area-of t)) → Own p t k i → Stands p q t i
+  pub entries : (k : ℕ) → k < positions t → has-block q t k ≡ true → Still p q t k ⊎ ((i : ℕ) × New k i)
+  pub homes : (k i : ℕ) → Still p q t k → In i (blocks p (area-of t)) → Matches p t k i → Stands p q t i
   pub standing : (i : ℕ) → In i (blocks q (area-of t)) → kind q i ≡ kind-of t → Stands p q t i ⊎ ((k : ℕ) × New k i)
-  pub heirs : (k i : ℕ) → k < positions t → Stands p q t i → Own p t k i → Still p q t k
-  pub new-own : (k i : ℕ) → New k i → (k < positions t) × (In i (blocks q (area-of t)) × Own q t k i)
+  pub heirs : (k i : ℕ) → k < positions t → Stands p q t i → Matches p t k i → Still p q t k
+  pub new-matches : (k i : ℕ) → New k i → (k < positions t) × (In i (blocks q (area-of t)) × Matches q t k i)
   pub new-block : (k i : ℕ) → New k i → In i (blocks p (area-of t)) → kind p i ≡ kind-of t → ⊥
   pub once : (j k i : ℕ) → New j i → New k i → j ≡ k
 
@@ -46,13 +46,13 @@ still-matched p q t New R M = record {
       let h = M .home k l (s .before) in
       let b = R .homes k (h .0) s (h .1 .0) (h .1 .1) in
       (h .0, (b .now-too, onto k (h .0) s b (h .1 .1))))
-      (λ (n : (i : ℕ) × New k i). let o = R .new-own k (n .0) (n .1) in (n .0, o .1))
+      (λ (n : (i : ℕ) × New k i). let o = R .new-matches k (n .0) (n .1) in (n .0, o .1))
       (R .entries k l c);
   heir = λ i m z. ⊎-elim
       (λ (b : Stands p q t i).
       let h = M .heir i (b .before) (sym (b .kind-as-was) ∙ z) in
       (h .0, (h .1 .0, onto (h .0) i (R .heirs (h .0) i (h .1 .0) b (h .1 .1)) b (h .1 .1))))
-      (λ (n : (k : ℕ) × New k i). let o = R .new-own (n .0) i (n .1) in (n .0, (o .0, o .1 .1)))
+      (λ (n : (k : ℕ) × New k i). let o = R .new-matches (n .0) i (n .1) in (n .0, (o .0, o .1 .1)))
       (R .standing i m z);
   apart = λ j k i x y m v w. ⊎-elim
       (λ (b : Stands p q t i). M .apart j k i x y (b .before) (old j i x b v) (old k i y b w))
@@ -60,22 +60,22 @@ still-matched p q t New R M = record {
       (R .standing i m (v .sorts));
 }
   where
-    onto : (k i : ℕ) → Still p q t k → Stands p q t i → Own p t k i → Own q t k i
-    onto k i s b o = record { claim = s .now-too; sorts = b .kind-as-was ∙ o .sorts; place = s .base-as-was ∙ o .place; held = s .owner-as-was ∙ o .held ∙ sym (b .holder-as-was) }
+    onto : (k i : ℕ) → Still p q t k → Stands p q t i → Matches p t k i → Matches q t k i
+    onto k i s b o = record { has = s .now-too; sorts = b .kind-as-was ∙ o .sorts; place = s .base-as-was ∙ o .place; held = s .owner-as-was ∙ o .held ∙ sym (b .holder-as-was) }
 
     -- an old block is an old entry's
-    old : (k i : ℕ) → k < positions t → Stands p q t i → Own q t k i → Own p t k i
+    old : (k i : ℕ) → k < positions t → Stands p q t i → Matches q t k i → Matches p t k i
     old k i l b o = ⊎-elim
-        (λ (s : Still p q t k). record { claim = s .before; sorts = sym (b .kind-as-was) ∙ o .sorts; place = sym (s .base-as-was) ∙ o .place; held = sym (s .owner-as-was) ∙ o .held ∙ b .holder-as-was })
+        (λ (s : Still p q t k). record { has = s .before; sorts = sym (b .kind-as-was) ∙ o .sorts; place = sym (s .base-as-was) ∙ o .place; held = sym (s .owner-as-was) ∙ o .held ∙ b .holder-as-was })
         (λ (n : (i : ℕ) × New k i).
-        let a = R .new-own k (n .0) (n .1) .1 .1 .place in
+        let a = R .new-matches k (n .0) (n .1) .1 .1 .place in
         let c = o .place in
         let z : n .0 ≡ i = omega arith in
         absurd (R .new-block k i (subst (New k) z (n .1)) (b .before) (sym (b .kind-as-was) ∙ o .sorts)))
-        (R .entries k l (o .claim))
+        (R .entries k l (o .has))
 
     -- a new block is a new entry's
-    fresh : (k i : ℕ) → k < positions t → (j : ℕ) → New j i → Own q t k i → New k i
+    fresh : (k i : ℕ) → k < positions t → (j : ℕ) → New j i → Matches q t k i → New k i
     fresh k i l j f o = ⊎-elim
         (λ (s : Still p q t k).
         let h = M .home k l (s .before) in
@@ -85,8 +85,8 @@ still-matched p q t New R M = record {
         let z : h .0 ≡ i = omega arith in
         absurd (R .new-block j i f (subst (λ (x : ℕ). In x (blocks p (area-of t))) z (h .1 .0)) (subst (λ (x : ℕ). kind p x ≡ kind-of t) z (h .1 .1 .sorts))))
         (λ (n : (i : ℕ) × New k i).
-        let a = R .new-own k (n .0) (n .1) .1 .1 .place in
+        let a = R .new-matches k (n .0) (n .1) .1 .1 .place in
         let c = o .place in
         let z : n .0 ≡ i = omega arith in
         subst (New k) z (n .1))
-        (R .entries k l (o .claim))
+        (R .entries k l (o .has))

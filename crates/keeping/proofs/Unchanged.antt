@@ -10,11 +10,11 @@ use Rattle.picture.specs.Layout.{positions}
 use Rattle.picture.specs.declared.Table.{Table}
 use Rattle.picture.specs.declared.Area.{Area}
 use Rattle.blocks.specs.Header.{kind, kind-of}
-use Rattle.matching.specs.Match.{area-of, claims}
-use Rattle.matching.proofs.Counts.{Own}
+use Rattle.matching.specs.Match.{area-of, has-block}
+use Rattle.matching.proofs.Counts.{Matches}
 use Rattle.matching.proofs.Matched.{Matched}
 use Rattle.facts.proofs.Sound.{Sound}
-use Rattle.facts.proofs.Same.{claims-same}
+use Rattle.facts.proofs.Same.{has-block-same}
 use Rattle.rooms.proofs.Sizes.{Lies}
 use Rattle.keeping.proofs.Tables.{TablesSame, mask-same, base-same, owner-same, lives-on, sizes-same, jobs-same, channels-same, current-same}
 use Rattle.keeping.proofs.Moved.{Fine}
@@ -27,16 +27,16 @@ NoPair k i = ⊥
 
 module _ (p q : List ℕ) (a : Area) (New Goes : ℕ → Type 0) (S : Sound p) (lies : (b : Area) → Lies p b) (s : TablesSame p q) (C : Change p q a New Goes)
     (fine : (i : ℕ) → New i → Fine q a i) (no-entry : (t : Table) (i : ℕ) → New i → kind q i ≡ kind-of t → ⊥) (no-home : (t : Table) (i : ℕ) → Goes i → kind p i ≡ kind-of t → ⊥) where
-  still : (t : Table) (k : ℕ) → k < positions t → claims p t k ≡ true → Still p q t k
-  still t k l c = record { before = c; now-too = claims-same p q t (mask-same p q s t) k ∙ c; base-as-was = base-same p q s t k l; owner-as-was = owner-same p q s t k l }
+  still : (t : Table) (k : ℕ) → k < positions t → has-block p t k ≡ true → Still p q t k
+  still t k l c = record { before = c; now-too = has-block-same p q t (mask-same p q s t) k ∙ c; base-as-was = base-same p q s t k l; owner-as-was = owner-same p q s t k l }
 
   rematched : (t : Table) → Rematched p q t NoPair
   rematched t = record {
-    entries = λ k l c. inl (still t k l (sym (claims-same p q t (mask-same p q s t) k) ∙ c));
+    entries = λ k l c. inl (still t k l (sym (has-block-same p q t (mask-same p q s t) k) ∙ c));
     homes = λ k i h m o. ⊎-elim (λ b. b) (λ (g : (a ≡ area-of t) × Goes i). absurd (no-home t i (g .1) (o .sorts))) (change-homes p q a New Goes C lies (S .tiled) t i m (o .sorts));
     standing = λ i m z. ⊎-elim inl (λ (n : (a ≡ area-of t) × New i). absurd (no-entry t i (n .1) z)) (change-standing p q a New Goes C lies (S .tiled) t i m z);
-    heirs = λ k i l b o. still t k l (o .claim);
-    new-own = λ k i n. absurd n;
+    heirs = λ k i l b o. still t k l (o .has);
+    new-matches = λ k i n. absurd n;
     new-block = λ k i n. absurd n;
     once = λ j k i n. absurd n;
   }

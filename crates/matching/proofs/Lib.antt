@@ -1,4 +1,4 @@
 -- Laws of the definitions of specs/.
-pub mod Meeting
+pub mod Agreeing
 pub mod Counts
 pub mod Matched

@@ -25,21 +25,21 @@ area-of Jobs = Transient
 area-of Channels = Heap
 
 -- the entry at position k is live and has a block
-unfoldable pub claims : List ℕ → Table → ℕ → Bool
-claims p t k = leb (first t) k && used p t k
+unfoldable pub has-block : List ℕ → Table → ℕ → Bool
+has-block p t k = leb (first t) k && used p t k
 
 -- the block at i is that of the entry at position k: base and owner agree
 unfoldable pub pair : List ℕ → Table → ℕ → ℕ → Bool
-pair p t k i = eqb (base p t k) (4 * i) && (claims p t k && eqb (owner p t k) (holder p i))
+pair p t k i = eqb (base p t k) (4 * i) && (has-block p t k && eqb (owner p t k) (holder p i))
 
 -- a block of the table's kind is that of exactly one entry
-unfoldable pub claimed : List ℕ → Table → ℕ → Bool
-claimed p t i = not (eqb (kind p i) (kind-of t)) || eqb (count (λ (k : ℕ). pair p t k i) (positions t)) 1
+unfoldable pub block-matched : List ℕ → Table → ℕ → Bool
+block-matched p t i = not (eqb (kind p i) (kind-of t)) || eqb (count (λ (k : ℕ). pair p t k i) (positions t)) 1
 
 -- the block at i is of the table's kind and that of the entry at position k
-unfoldable pub own : List ℕ → Table → ℕ → ℕ → Bool
-own p t k i = eqb (kind p i) (kind-of t) && pair p t k i
+unfoldable pub matches : List ℕ → Table → ℕ → ℕ → Bool
+matches p t k i = eqb (kind p i) (kind-of t) && pair p t k i
 
 -- an entry that has a block finds it in the table's area
-unfoldable pub housed : List ℕ → Table → ℕ → Bool
-housed p t k = not (claims p t k) || any (own p t k) (blocks p (area-of t))
+unfoldable pub entry-matched : List ℕ → Table → ℕ → Bool
+entry-matched p t k = not (has-block p t k) || any (matches p t k) (blocks p (area-of t))

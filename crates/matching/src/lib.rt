@@ -8,7 +8,7 @@ ghost use Rattle.words.specs.Each.{one};
 ghost use Rattle.picture.specs.Layout.{positions, heap-base as heapBase};
 ghost use Rattle.blocks.specs.Header.{holder-field as holderField};
 ghost use Rattle.matching.specs.Match.{first};
-ghost use Rattle.matching.specs.Met.{meets, met, noticed};
+ghost use Rattle.matching.specs.Agreed.{agrees, agreed, agreed-as-noted as agreedAsNoted};
 
 // How a walk over a table or an area ends: at something that breaks a rule, or with what it counted.
 pub enum Walked {
@@ -37,9 +37,9 @@ pub fn one_of(b: bool) -> usize
 }
 
 // The block at i and the record of position k agree: base and owner.
-pub fn is_meeting(p: &[u32], t: Table, k: usize, i: usize) -> bool
+pub fn is_agreeing(p: &[u32], t: Table, k: usize, i: usize) -> bool
     requires { ⌜ (heapBase ≤ length (now p)) × ((k < positions t) × ((i + holderField < length (now p)) × (i < 8589934592))) ⌝ }
-    ensures { λ r. ⌜ r ≡ meets (now (p .entry)) t k i ⌝ }
+    ensures { λ r. ⌜ r ≡ agrees (now (p .entry)) t k i ⌝ }
 {
     if field_of(p, t, k, picture::BASE) as usize != 4 * i {
         return false;
@@ -48,14 +48,14 @@ pub fn is_meeting(p: &[u32], t: Table, k: usize, i: usize) -> bool
 }
 
 // The block at i agrees with some record of the table, which is looked for among all.
-pub fn is_met(p: &[u32], t: Table, i: usize) -> bool
+pub fn is_agreed(p: &[u32], t: Table, i: usize) -> bool
     requires { ⌜ (heapBase ≤ length (now p)) × ((i + holderField < length (now p)) × (i < 8589934592)) ⌝ }
-    ensures { λ r. ⌜ r ≡ met (now (p .entry)) t i ⌝ }
+    ensures { λ r. ⌜ r ≡ agreed (now (p .entry)) t i ⌝ }
 {
     let n = picture::positions_of(t);
     let mut k = 0;
     while k < n {
-        if is_meeting(p, t, k, i) {
+        if is_agreeing(p, t, k, i) {
             return true;
         }
         k += 1;
@@ -71,13 +71,13 @@ fn wide(position: u8) -> usize
 }
 
 // The block at i agrees with the record at the position noted for its place.
-pub fn is_noticed(p: &[u32], t: Table, i: usize, noted: &[u8; 64]) -> bool
+pub fn is_agreed_as_noted(p: &[u32], t: Table, i: usize, noted: &[u8; 64]) -> bool
     requires { ⌜ (heapBase ≤ length (now p)) × ((i + holderField < length (now p)) × (i < 8589934592)) ⌝ }
-    ensures { λ r. ⌜ r ≡ noticed (now (p .entry)) t i (now (noted .entry)) ⌝ }
+    ensures { λ r. ⌜ r ≡ agreedAsNoted (now (p .entry)) t i (now (noted .entry)) ⌝ }
 {
     let k = wide(noted[i / 4 % 64]);
     if picture::positions_of(t) <= k {
         return false;
     }
-    is_meeting(p, t, k, i)
+    is_agreeing(p, t, k, i)
 }

@@ -20,14 +20,14 @@ use Rattle.picture.proofs.Records.{used-below}
 use Rattle.picture.proofs.Members.{Spares, holds-low, spares-size, spares-heap, spares-zero, members-same}
 use Rattle.blocks.specs.Header.{kind, kind-of, queue-kind, free}
 use Rattle.blocks.specs.Walk.{blocks}
-use Rattle.matching.specs.Match.{first, area-of, claims}
-use Rattle.matching.proofs.Counts.{Own}
+use Rattle.matching.specs.Match.{first, area-of, has-block}
+use Rattle.matching.proofs.Counts.{Matches}
 use Rattle.matching.proofs.Matched.{Matched}
 use Rattle.areas.specs.Rules.{longest-queue}
 use Rattle.sound.specs.Sound.{sound}
 use Rattle.facts.proofs.Sound.{Sizes, Entries, Jobs-fine, Channels-fine, Sound}
-use Rattle.facts.proofs.View.{sound-again, claims-used}
-use Rattle.facts.proofs.Same.{used-same, claims-same, live-same, Lives, EntriesSame, entries-same}
+use Rattle.facts.proofs.View.{sound-again, has-block-used}
+use Rattle.facts.proofs.Same.{used-same, has-block-same, live-same, Lives, EntriesSame, entries-same}
 use Rattle.facts.proofs.Ages.{Ages, ages-same, ages-then}
 use Rattle.rooms.specs.Room.{header-byte}
 use Rattle.rooms.proofs.Room.{has-room}
@@ -150,14 +150,14 @@ module _ (p : List ℕ) (o n : ℕ) (h : sound p ≡ true) (fp : has-position p 
   abbrev Pair : Table → ℕ → ℕ → Type 0
   Pair t j x = (t ≡ Channels) × ((j ≡ k) × (x ≡ at))
 
-  claims-there : (j : ℕ) → claims q Channels j ≡ true → used p Channels j ≡ true → claims p Channels j ≡ true
-  unfolding claims
-  claims-there j c u = rw (both (leb (first Channels) j) (used q Channels j) c .0, u)
+  has-block-there : (j : ℕ) → has-block q Channels j ≡ true → used p Channels j ≡ true → has-block p Channels j ≡ true
+  unfolding has-block
+  has-block-there j c u = rw (both (leb (first Channels) j) (used q Channels j) c .0, u)
 
-  still : (t : Table) (j : ℕ) → j < positions t → claims p t j ≡ true → Still p q t j
-  unfolding claims
+  still : (t : Table) (j : ℕ) → j < positions t → has-block p t j ≡ true → Still p q t j
+  unfolding has-block
   still Channels j l x =
-      let u = claims-used p Channels j x in
+      let u = has-block-used p Channels j x in
       let m = another p e Channels k g o (header-byte at) E there vacant j u in
       record {
         before = x;
@@ -165,23 +165,23 @@ module _ (p : List ℕ) (o n : ℕ) (h : sound p ≡ true) (fp : has-position p 
         base-as-was = old j base-field l (omega arith) m;
         owner-as-was = old j owner-field l (omega arith) m;
       }
-  still Jobs j l x = record { before = x; now-too = claims-same p q Jobs (J .mask) j ∙ x; base-as-was = J .fields j base-field l (omega arith); owner-as-was = J .fields j owner-field l (omega arith) }
+  still Jobs j l x = record { before = x; now-too = has-block-same p q Jobs (J .mask) j ∙ x; base-as-was = J .fields j base-field l (omega arith); owner-as-was = J .fields j owner-field l (omega arith) }
 
-  entries-by : (t : Table) (j : ℕ) → j < positions t → claims q t j ≡ true → Still p q t j ⊎ ((i : ℕ) × Pair t j i)
+  entries-by : (t : Table) (j : ℕ) → j < positions t → has-block q t j ≡ true → Still p q t j ⊎ ((i : ℕ) × Pair t j i)
   entries-by Channels j l x = ⊎-elim
       (λ (y : j ≡ k). inr (at, (refl, (y, refl))))
-      (λ (v : (j ≡ k → ⊥) × (used p Channels j ≡ true)). inl (still Channels j l (claims-there j x (v .1))))
-      (cases j (claims-used q Channels j x))
-  entries-by Jobs j l x = inl (still Jobs j l (sym (claims-same p q Jobs (J .mask) j) ∙ x))
+      (λ (v : (j ≡ k → ⊥) × (used p Channels j ≡ true)). inl (still Channels j l (has-block-there j x (v .1))))
+      (cases j (has-block-used q Channels j x))
+  entries-by Jobs j l x = inl (still Jobs j l (sym (has-block-same p q Jobs (J .mask) j) ∙ x))
 
   new-block : (t : Table) (i : ℕ) → (Heap ≡ area-of t) × (i ≡ at) → (j : ℕ) × Pair t j i
   new-block Channels i x = (k, (refl, (refl, x .1)))
   new-block Jobs i x = absurd (elsewhere (x .0))
 
-  pub pair : Own q Channels k at
-  unfolding claims
+  pub pair : Matches q Channels k at
+  unfolding has-block
   pair = record {
-    claim = rw (le-leb 0 k (omega arith), used-new);
+    has = rw (le-leb 0 k (omega arith), used-new);
     sorts = the.at-kind p o n h fp tg rm;
     place = field-step k base-field (omega arith) ∙ E .its-base;
     held = field-step k owner-field (omega arith) ∙ E .its-owner ∙ sym (the.at-holder p o n h fp tg rm);
@@ -192,13 +192,13 @@ module _ (p : List ℕ) (o n : ℕ) (h : sound p ≡ true) (fp : has-position p 
     entries = entries-by t;
     homes = λ j i s m w. ⊎-elim (λ b. b) (λ (x : (Heap ≡ area-of t) × None i). absurd (x .1)) (change-homes p q Heap (Only at) None (the.change p o n h fp tg rm) (the.lies p o n h fp tg rm) (S .tiled) t i m (w .sorts));
     standing = λ i m z. ⊎-elim inl (λ x. inr (new-block t i x)) (change-standing p q Heap (Only at) None (the.change p o n h fp tg rm) (the.lies p o n h fp tg rm) (S .tiled) t i m z);
-    heirs = λ j i l b w. still t j l (w .claim);
-    new-own = λ j i x. own t j i x;
+    heirs = λ j i l b w. still t j l (w .has);
+    new-matches = λ j i x. own t j i x;
     new-block = λ j i x m z. taken t i (x .0) (x .1 .1) z;
     once = λ j x i a b. a .1 .0 ∙ sym (b .1 .0);
   }
     where
-      own : (t : Table) (j i : ℕ) → Pair t j i → (j < positions t) × (In i (blocks q (area-of t)) × Own q t j i)
+      own : (t : Table) (j i : ℕ) → Pair t j i → (j < positions t) × (In i (blocks q (area-of t)) × Matches q t j i)
       own Channels j i x = rw (x .1 .0, x .1 .1) (there, (the.at-there p o n h fp tg rm, pair))
       own Jobs j i x = absurd (no-channel (x .0))
 

@@ -13,7 +13,7 @@ use Rattle.picture.specs.declared.Table.the-variants.{Jobs, Channels}
 use Rattle.picture.specs.declared.Area.the-variants.{Heap}
 use Rattle.picture.proofs.Numbers.{Live, live-is}
 use Rattle.blocks.specs.Header.{queue-count-field, kind, queue-kind, queue-count}
-use Rattle.matching.proofs.Counts.{Own}
+use Rattle.matching.proofs.Counts.{Matches}
 use Rattle.sound.specs.Sound.{sound}
 use Rattle.facts.proofs.Sound.{Sound}
 use Rattle.calls.specs.Outcome.{Outcome}

@@ -13,7 +13,7 @@ use Rattle.picture.specs.Records.{number}
 use Rattle.picture.specs.Numbers.{position, live}
 use Rattle.picture.specs.declared.Table.the-variants.{Channels}
 use Rattle.picture.proofs.Numbers.{Live, live-is}
-use Rattle.matching.proofs.Counts.{Own}
+use Rattle.matching.proofs.Counts.{Matches}
 use Rattle.matching.proofs.Matched.{Matched}
 use Rattle.sound.specs.Sound.{sound}
 use Rattle.facts.proofs.Sound.{Sound}
@@ -43,7 +43,7 @@ queues-differ p s m n a b e =
     let S = view p s in
     let H = live-queue p n s b in
     let G = live-queue p m s a in
-    let k = S .matched Channels .apart (position m) (position n) (queue-of p (position n)) (live-below p m a) (live-below p n b) (H .there) (subst (Own p Channels (position m)) e (G .own)) (H .own) in
+    let k = S .matched Channels .apart (position m) (position n) (queue-of p (position n)) (live-below p m a) (live-below p n b) (H .there) (subst (Matches p Channels (position m)) e (G .own)) (H .own) in
     sym (live-is p Channels m a .names) ∙ ap (number p Channels) k ∙ live-is p Channels n b .names
 
 -- writing in one queue's room leaves every other queue

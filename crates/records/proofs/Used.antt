@@ -6,11 +6,11 @@ use mathlib.Core.List.{List}
 use lib.Dec.{leb}
 use Rattle.picture.specs.Records.{used}
 use Rattle.picture.specs.declared.Table.{Table}
-use Rattle.matching.specs.Match.{first, claims}
+use Rattle.matching.specs.Match.{first, has-block}
 
-pub claims-used : (p : List ℕ) (t : Table) (k : ℕ) → used p t k ≡ true → claims p t k ≡ leb (first t) k
-unfolding claims
-claims-used p t k u = rw u (go (leb (first t) k))
+pub has-block-used : (p : List ℕ) (t : Table) (k : ℕ) → used p t k ≡ true → has-block p t k ≡ leb (first t) k
+unfolding has-block
+has-block-used p t k u = rw u (go (leb (first t) k))
   where
     go : (b : Bool) → b && true ≡ b
     go true = refl

@@ -10,7 +10,7 @@ use Rattle.picture.specs.Records.{field, number, owner, base, priority, accumul
 use Rattle.picture.specs.Numbers.{tag, position, live}
 use Rattle.picture.specs.declared.Table.{Table}
 use Rattle.picture.specs.declared.Table.the-variants.{Jobs, Channels}
-use Rattle.matching.specs.Match.{claims}
+use Rattle.matching.specs.Match.{has-block}
 
 -- "block base (0 for job 0)"
 unfoldable pub zero-base : List ℕ → ℕ → Bool
@@ -46,7 +46,7 @@ zero-exists p k = not (eqb k 0) || (used p Jobs k && eqb (number p Jobs k) 0)
 
 -- "Other tags run from 1 to 32,767"
 unfoldable pub tag-within : List ℕ → Table → ℕ → Bool
-tag-within p t k = not (claims p t k) || (leb 1 (tag (number p t k)) && leb (tag (number p t k)) greatest-tag)
+tag-within p t k = not (has-block p t k) || (leb 1 (tag (number p t k)) && leb (tag (number p t k)) greatest-tag)
 
 -- "none is used twice": no lower position in use has the same tag
 unfoldable pub tags-differ : List ℕ → Table → ℕ → ℕ → Bool
@@ -76,8 +76,8 @@ unfoldable pub tag-given : List ℕ → Table → ℕ → Bool
 tag-given p t k = not (used p t k) || leb (tag (number p t k)) (word p (last-word t))
 
 -- "a job waits only for a live job other than 0 or itself, and only with timeout -1"
-unfoldable pub waits-well : List ℕ → ℕ → Bool
-waits-well p k = eqb (waited-for p k) 0 || (live p Jobs (waited-for p k) && (not (eqb (waited-for p k) (number p Jobs k)) && eqb (timeout p k) nobody))
+unfoldable pub wait-allowed : List ℕ → ℕ → Bool
+wait-allowed p k = eqb (waited-for p k) 0 || (live p Jobs (waited-for p k) && (not (eqb (waited-for p k) (number p Jobs k)) && eqb (timeout p k) nobody))
 
 -- "accumulated is 0 unless ready"
 unfoldable pub idle-zero : List ℕ → ℕ → Bool

@@ -17,7 +17,7 @@ use Rattle.picture.specs.declared.Area.{Area}
 use Rattle.picture.specs.declared.Area.the-variants.{Heap, Transient}
 use Rattle.blocks.specs.Header.{kind, kind-of, job-kind, queue-kind, free}
 use Rattle.blocks.specs.Walk.{blocks}
-use Rattle.matching.specs.Match.{area-of, claimed}
+use Rattle.matching.specs.Match.{area-of, block-matched}
 use Rattle.entries.specs.Entries.{record-fine}
 use Rattle.entries.proofs.Rules.{Entry, Job, Channel, job-is, is-job, channel-is, is-channel}
 use Rattle.walks.proofs.Rules.{Block}
@@ -27,13 +27,13 @@ use Rattle.sound.specs.Sound.{sound}
 use Rattle.sound.specs.Test.{half-fine, tested}
 use Rattle.sound.proofs.Holds.{Holds, sound-holds, sound-by}
 use Rattle.sound.proofs.Whole.{Whole, whole-is, is-whole}
-use Rattle.sound.proofs.Halves.{Half, half-is, is-half, half-by, half-claimed, half-housed, half-held, half-block}
+use Rattle.sound.proofs.Halves.{Half, half-is, is-half, half-by, half-blocks, half-entries, half-held, half-block}
 
 module _ (p : List ℕ) where
   -- a block of another kind is nobody's
-  unclaimed : (t : Table) (i : ℕ) → (kind p i ≡ kind-of t → ⊥) → claimed p t i ≡ true
-  unfolding claimed
-  unclaimed t i n = rw (ne-eqb (kind p i) (kind-of t) n)
+  other-kind-matched : (t : Table) (i : ℕ) → (kind p i ≡ kind-of t → ⊥) → block-matched p t i ≡ true
+  unfolding block-matched
+  other-kind-matched t i n = rw (ne-eqb (kind p i) (kind-of t) n)
 
   no-job : (i : ℕ) → kind-fits p Heap i ≡ true → kind p i ≡ job-kind → ⊥
   unfolding kind-fits
@@ -71,20 +71,20 @@ module _ (p : List ℕ) where
     fits Heap i m = block Heap i m .fits
     fits Transient i m = block Transient i m .fits
 
-    claimed-in : (t : Table) (a : Area) (i : ℕ) → In i (blocks p a) → claimed p t i ≡ true
-    claimed-in Jobs Heap i m = unclaimed Jobs i (no-job i (fits Heap i m))
-    claimed-in Jobs Transient i m = all-at (claimed p Jobs) (blocks p Transient) (half-claimed p Jobs (h Jobs)) i m
-    claimed-in Channels Heap i m = all-at (claimed p Channels) (blocks p Heap) (half-claimed p Channels (h Channels)) i m
-    claimed-in Channels Transient i m = unclaimed Channels i (no-queue i (fits Transient i m))
+    blocks-in : (t : Table) (a : Area) (i : ℕ) → In i (blocks p a) → block-matched p t i ≡ true
+    blocks-in Jobs Heap i m = other-kind-matched Jobs i (no-job i (fits Heap i m))
+    blocks-in Jobs Transient i m = all-at (block-matched p Jobs) (blocks p Transient) (half-blocks p Jobs (h Jobs)) i m
+    blocks-in Channels Heap i m = all-at (block-matched p Channels) (blocks p Heap) (half-blocks p Channels (h Channels)) i m
+    blocks-in Channels Transient i m = other-kind-matched Channels i (no-queue i (fits Transient i m))
 
     held : (a : Area) (i : ℕ) → In i (blocks p a) → holder-live p i ≡ true
     held Heap = half-held p Channels (h Channels) (λ k l. entry Channels k l .owner)
     held Transient = half-held p Jobs (h Jobs) (λ k l. entry Jobs k l .owner)
 
     by-name : (r : Rule) → Holds p r
-    by-name Rule.size-right = w .size
-    by-name Rule.zero-right = w .nought
-    by-name Rule.heap-right = w .heap
+    by-name Rule.size-stated = w .size
+    by-name Rule.seven-zero = w .nought
+    by-name Rule.heap-stated = w .heap
     by-name Rule.zero-base = λ k l. job k l .base
     by-name Rule.priority-within = λ k l. job k l .priority
     by-name Rule.accumulated-within = λ k l. job k l .accumulated
@@ -103,8 +103,8 @@ module _ (p : List ℕ) where
     by-name Rule.tiles = λ a i m. block a i m .tile
     by-name Rule.untouched = λ a i m. block a i m .lone
     by-name Rule.kind-fits = fits
-    by-name (Rule.claimed t) = claimed-in t
-    by-name (Rule.housed t) = half-housed p t (h t)
+    by-name (Rule.block-matched t) = blocks-in t
+    by-name (Rule.entry-matched t) = half-entries p t (h t)
     by-name (Rule.owner-live t) = λ k l. entry t k l .owner
     by-name Rule.holder-live = held
     by-name Rule.owner-older = λ k l. job k l .older
@@ -112,7 +112,7 @@ module _ (p : List ℕ) where
     by-name (Rule.tag-given t) = λ k l. entry t k l .given
     by-name (Rule.last-within t) = w .last t
     by-name Rule.current-ready = w .current
-    by-name Rule.waits-well = λ k l. job k l .waits
+    by-name Rule.wait-allowed = λ k l. job k l .waits
     by-name Rule.idle-zero = λ k l. job k l .idle
 
   tested-sound : tested p ≡ true → sound p ≡ true
@@ -144,7 +144,7 @@ module _ (p : List ℕ) where
       accumulated = h Rule.accumulated-within k l;
       timeout = h Rule.timeout-within k l;
       older = h Rule.owner-older k l;
-      waits = h Rule.waits-well k l;
+      waits = h Rule.wait-allowed k l;
       idle = h Rule.idle-zero k l;
     }
 
@@ -165,10 +165,10 @@ module _ (p : List ℕ) where
     }
 
     half : (t : Table) → half-fine p t ≡ true
-    half t = is-half p t (half-by p t (record-by t) (block-by t) (h (Rule.claimed t) (area-of t)) (h (Rule.housed t)) (h Rule.holder-live (area-of t)))
+    half t = is-half p t (half-by p t (record-by t) (block-by t) (h (Rule.block-matched t) (area-of t)) (h (Rule.entry-matched t)) (h Rule.holder-live (area-of t)))
 
     whole-by : Whole p
-    whole-by = record { size = h Rule.size-right; nought = h Rule.zero-right; heap = h Rule.heap-right; last = λ t. h (Rule.last-within t); current = h Rule.current-ready }
+    whole-by = record { size = h Rule.size-stated; nought = h Rule.seven-zero; heap = h Rule.heap-stated; last = λ t. h (Rule.last-within t); current = h Rule.current-ready }
 
   sound-tested : sound p ≡ true → tested p ≡ true
   unfolding tested

@@ -17,18 +17,18 @@ use Rattle.picture.specs.declared.Table.the-variants.{Jobs, Channels}
 use Rattle.blocks.specs.Header.{kind, kind-of, holder}
 use Rattle.blocks.specs.Walk.{blocks}
 use Rattle.blocks.proofs.Starts.{starts-in}
-use Rattle.matching.specs.Match.{area-of, first, claims, claimed, housed}
-use Rattle.matching.specs.Met.{met}
-use Rattle.matching.proofs.Counts.{Own, heirs-claimed, counts-housed, housed-counts}
+use Rattle.matching.specs.Match.{area-of, first, has-block, block-matched, entry-matched}
+use Rattle.matching.specs.Agreed.{agreed}
+use Rattle.matching.proofs.Counts.{Matches, heirs-blocks, counts-entries, entries-counts}
 use Rattle.matching.proofs.Matched.{Matched, matched}
-use Rattle.matching.proofs.Meeting.{met-some, some-met}
+use Rattle.matching.proofs.Agreeing.{agreed-some, some-agreed}
 use Rattle.records.specs.Rules.{may-be-unowned, owner-live}
 use Rattle.areas.specs.Rules.{holder-live}
 use Rattle.matching.specs.declared.Walked.the-variants.{Broken, Counted}
 use Rattle.entries.specs.Entries.{record-fine, entries-walked}
-use Rattle.entries.proofs.Rules.{placed-claims}
+use Rattle.entries.proofs.Rules.{placed-has-block}
 use Rattle.walks.specs.Walks.{block-fine, blocks-walked}
-use Rattle.walks.proofs.Rules.{Block, block-is, is-block, fine-met, fine-held}
+use Rattle.walks.proofs.Rules.{Block, block-is, is-block, fine-agreed, fine-held}
 use Rattle.sound.specs.Test.{as-many, half-fine}
 
 module _ (p : List ℕ) (t : Table) where
@@ -43,14 +43,14 @@ module _ (p : List ℕ) (t : Table) where
   pub record Half : Type 0 where
     pub records : (k : ℕ) → k < positions t → record-fine p t k ≡ true
     pub fine : (i : ℕ) → In i homes → block-fine p t (upto p (area-of t)) i ≡ true
-    pub counts : found ≡ count (claims p t) (positions t)
+    pub counts : found ≡ count (has-block p t) (positions t)
 
   pub half-is : half-fine p t ≡ true → Half
   unfolding half-fine entries-walked blocks-walked
   half-is h = go (every (record-fine p t) (positions t)) refl (all (block-fine p t (upto p (area-of t))) homes) refl h
     where
       go : (a : Bool) → every (record-fine p t) (positions t) ≡ a → (b : Bool) → all (block-fine p t (upto p (area-of t))) homes ≡ b
-          → as-many (cond a (Counted (count (claims p t) (positions t))) Broken) (cond b (Counted found) Broken) ≡ true → Half
+          → as-many (cond a (Counted (count (has-block p t) (positions t))) Broken) (cond b (Counted found) Broken) ≡ true → Half
       go true u true v g = record { records = every-at (record-fine p t) (positions t) u; fine = all-at (block-fine p t (upto p (area-of t))) homes v; counts = sym (eqb-true _ _ g) }
       go true u false v g = absurd (false-true g)
       go false u b v g = absurd (false-true g)
@@ -67,26 +67,26 @@ module _ (p : List ℕ) (t : Table) where
       past Channels h = omega arith
 
   module _ (q : Half) where
-    heir : (i : ℕ) → In i homes → kind p i ≡ kind-of t → (k : ℕ) × ((k < positions t) × Own p t k i)
+    heir : (i : ℕ) → In i homes → kind p i ≡ kind-of t → (k : ℕ) × ((k < positions t) × Matches p t k i)
     heir i m s =
-        let g = met-some p t i (fine-met p i t (upto p (area-of t)) (q .fine i m) s) in
+        let g = agreed-some p t i (fine-agreed p i t (upto p (area-of t)) (q .fine i m) s) in
         let z = g .1 .place in
         let l = home-past i m in
-        (g .0, (g .1 .below, record { claim = placed-claims p (g .0) t (q .records (g .0) (g .1 .below)) (omega arith); sorts = s; place = g .1 .place; held = g .1 .held }))
+        (g .0, (g .1 .below, record { has = placed-has-block p (g .0) t (q .records (g .0) (g .1 .below)) (omega arith); sorts = s; place = g .1 .place; held = g .1 .held }))
 
-    pub half-claimed : all (claimed p t) homes ≡ true
-    half-claimed = heirs-claimed p t heir (q .counts)
+    pub half-blocks : all (block-matched p t) homes ≡ true
+    half-blocks = heirs-blocks p t heir (q .counts)
 
-    pub half-housed : (k : ℕ) → k < positions t → housed p t k ≡ true
-    half-housed = every-at (housed p t) (positions t) (counts-housed p t half-claimed (q .counts))
+    pub half-entries : (k : ℕ) → k < positions t → entry-matched p t k ≡ true
+    half-entries = every-at (entry-matched p t) (positions t) (counts-entries p t half-blocks (q .counts))
 
     -- the owner of a block of the table's kind is its record's, and so is live
     heir-held : ((k : ℕ) → k < positions t → owner-live p t k ≡ true) → (i : ℕ) → In i homes → kind p i ≡ kind-of t → holder-live p i ≡ true
-    unfolding owner-live holder-live claims
+    unfolding owner-live holder-live has-block
     heir-held o i m s =
         let h = heir i m s in
         let w = h .1 .1 in
-        let u = both (leb (first t) (h .0)) (used p t (h .0)) (w .claim) .1 in
+        let u = both (leb (first t) (h .0)) (used p t (h .0)) (w .has) .1 in
         live-then t s (rw (w .held) at (unless (used p t (h .0)) _ (o (h .0) (h .1 .0)) u))
       where
         live-then : (t : Table) → kind p i ≡ kind-of t → (may-be-unowned t && eqb (holder p i) nobody) || live p Jobs (holder p i) ≡ true → holder-live p i ≡ true
@@ -101,15 +101,15 @@ module _ (p : List ℕ) (t : Table) where
 
   -- the other way round: rules that hold of every record and block make a half
   pub half-by : ((k : ℕ) → k < positions t → record-fine p t k ≡ true) → ((i : ℕ) → In i homes → Block p t (upto p (area-of t)) i)
-      → ((i : ℕ) → In i homes → claimed p t i ≡ true) → ((k : ℕ) → k < positions t → housed p t k ≡ true) → ((i : ℕ) → In i homes → holder-live p i ≡ true) → Half
+      → ((i : ℕ) → In i homes → block-matched p t i ≡ true) → ((k : ℕ) → k < positions t → entry-matched p t k ≡ true) → ((i : ℕ) → In i homes → holder-live p i ≡ true) → Half
   half-by r b c h o = record {
     records = r;
-    fine = λ i m. is-block p i t (upto p (area-of t)) (b i m) (λ s. meets i (M .heir i m s)) (o i m);
-    counts = housed-counts p t (all-by (claimed p t) homes c) (every-by (housed p t) (positions t) h);
+    fine = λ i m. is-block p i t (upto p (area-of t)) (b i m) (λ s. agrees i (M .heir i m s)) (o i m);
+    counts = entries-counts p t (all-by (block-matched p t) homes c) (every-by (entry-matched p t) (positions t) h);
   }
     where
       M : Matched p t
       M = matched p t c h
 
-      meets : (i : ℕ) → (k : ℕ) × ((k < positions t) × Own p t k i) → met p t i ≡ true
-      meets i x = some-met p t i (x .0) (record { below = x .1 .0; place = x .1 .1 .place; held = x .1 .1 .held })
+      agrees : (i : ℕ) → (k : ℕ) × ((k < positions t) × Matches p t k i) → agreed p t i ≡ true
+      agrees i x = some-agreed p t i (x .0) (record { below = x .1 .0; place = x .1 .1 .place; held = x .1 .1 .held })

@@ -47,9 +47,9 @@ ruleset lists = (here, there)
 
 -- every rule that has a name is in the list
 listed : (r : Rule) → Listed r rules
-listed Rule.size-right = search lists depth 64
-listed Rule.zero-right = search lists depth 64
-listed Rule.heap-right = search lists depth 64
+listed Rule.size-stated = search lists depth 64
+listed Rule.seven-zero = search lists depth 64
+listed Rule.heap-stated = search lists depth 64
 listed Rule.zero-base = search lists depth 64
 listed Rule.priority-within = search lists depth 64
 listed Rule.accumulated-within = search lists depth 64
@@ -72,10 +72,10 @@ listed Rule.queue-room = search lists depth 64
 listed Rule.tiles = search lists depth 64
 listed Rule.untouched = search lists depth 64
 listed Rule.kind-fits = search lists depth 64
-listed (Rule.claimed Jobs) = search lists depth 64
-listed (Rule.claimed Channels) = search lists depth 64
-listed (Rule.housed Jobs) = search lists depth 64
-listed (Rule.housed Channels) = search lists depth 64
+listed (Rule.block-matched Jobs) = search lists depth 64
+listed (Rule.block-matched Channels) = search lists depth 64
+listed (Rule.entry-matched Jobs) = search lists depth 64
+listed (Rule.entry-matched Channels) = search lists depth 64
 listed (Rule.owner-live Jobs) = search lists depth 64
 listed (Rule.owner-live Channels) = search lists depth 64
 listed Rule.holder-live = search lists depth 64
@@ -86,7 +86,7 @@ listed (Rule.tag-given Channels) = search lists depth 64
 listed (Rule.last-within Jobs) = search lists depth 64
 listed (Rule.last-within Channels) = search lists depth 64
 listed Rule.current-ready = search lists depth 64
-listed Rule.waits-well = search lists depth 64
+listed Rule.wait-allowed = search lists depth 64
 listed Rule.idle-zero = search lists depth 64
 
 listed-holds : (p : List ℕ) (r : Rule) (l : List Rule) → Listed r l → all-hold p l ≡ true → Holds p r

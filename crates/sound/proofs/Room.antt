@@ -12,24 +12,24 @@ use Rattle.words.proofs.Tests.{both}
 use Rattle.picture.specs.Layout.{upto, least-size, heap-base, heap-word, size-word}
 use Rattle.picture.specs.declared.Area.{Area}
 use Rattle.picture.specs.declared.Area.the-variants.{Heap, Transient}
-use Rattle.sound.specs.Whole.{size-right, heap-right}
+use Rattle.sound.specs.Whole.{size-stated, heap-stated}
 use Rattle.sound.specs.Rule.{Rule}
 use Rattle.sound.specs.Sound.{sound}
 use Rattle.sound.specs.Test.{whole-fine}
 use Rattle.sound.proofs.Holds.{sound-holds}
 use Rattle.sound.proofs.Whole.{whole-is}
 
-size-known : (p : List ℕ) → size-right p ≡ true → (word p size-word ≡ length p) × (least-size ≤ length p)
-unfolding size-right
+size-known : (p : List ℕ) → size-stated p ≡ true → (word p size-word ≡ length p) × (least-size ≤ length p)
+unfolding size-stated
 size-known p h =
     let a = both (eqb (word p size-word) (length p)) _ h in
     (eqb-true _ _ (a .0), leb-true least-size (length p) (both (leb least-size (length p)) _ (a .1) .0))
 
 pub sound-tables : (p : List ℕ) → sound p ≡ true → heap-base ≤ length p
-sound-tables p s = let l = size-known p (sound-holds p s Rule.size-right) .1 in omega arith
+sound-tables p s = let l = size-known p (sound-holds p s Rule.size-stated) .1 in omega arith
 
-heap-known : (p : List ℕ) → heap-right p ≡ true → heap-base + word p heap-word + 4 ≤ word p size-word
-unfolding heap-right
+heap-known : (p : List ℕ) → heap-stated p ≡ true → heap-base + word p heap-word + 4 ≤ word p size-word
+unfolding heap-stated
 heap-known p h =
     let a = both (eqb (word p heap-word % 4) 0) _ h in
     leb-true (heap-base + word p heap-word + 4) (word p size-word) (both (leb 4 (word p heap-word)) _ (a .1) .1)

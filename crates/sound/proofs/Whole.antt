@@ -6,14 +6,14 @@ use mathlib.Core.List.{List}
 use Rattle.words.proofs.Tests.{both}
 use Rattle.picture.specs.declared.Table.{Table}
 use Rattle.picture.specs.declared.Table.the-variants.{Jobs, Channels}
-use Rattle.sound.specs.Whole.{size-right, zero-right, heap-right, last-within, current-ready}
+use Rattle.sound.specs.Whole.{size-stated, seven-zero, heap-stated, last-within, current-ready}
 use Rattle.sound.specs.Test.{whole-fine}
 
 module _ (p : List ℕ) where
   pub record Whole : Type 0 where
-    pub size : size-right p ≡ true
-    pub nought : zero-right p ≡ true
-    pub heap : heap-right p ≡ true
+    pub size : size-stated p ≡ true
+    pub nought : seven-zero p ≡ true
+    pub heap : heap-stated p ≡ true
     pub last : (t : Table) → last-within t p ≡ true
     pub current : current-ready p ≡ true
 

@@ -5,9 +5,9 @@ use Rattle.picture.specs.declared.Table.the-variants.{Jobs, Channels}
 
 -- what is said of both tables is a rule of each
 pub data Rule : Type 0 where
-  size-right : Rule
-  zero-right : Rule
-  heap-right : Rule
+  size-stated : Rule
+  seven-zero : Rule
+  heap-stated : Rule
   zero-base : Rule
   priority-within : Rule
   accumulated-within : Rule
@@ -26,8 +26,8 @@ pub data Rule : Type 0 where
   tiles : Rule
   untouched : Rule
   kind-fits : Rule
-  claimed : Table → Rule
-  housed : Table → Rule
+  block-matched : Table → Rule
+  entry-matched : Table → Rule
   owner-live : Table → Rule
   holder-live : Rule
   owner-older : Rule
@@ -35,15 +35,15 @@ pub data Rule : Type 0 where
   tag-given : Table → Rule
   last-within : Table → Rule
   current-ready : Rule
-  waits-well : Rule
+  wait-allowed : Rule
   idle-zero : Rule
 
 -- all of them, in document 01's order
 abbrev pub rules : List Rule
 rules =
-    size-right ∷
-    zero-right ∷
-    heap-right ∷
+    size-stated ∷
+    seven-zero ∷
+    heap-stated ∷
     zero-base ∷
     priority-within ∷
     accumulated-within ∷
@@ -66,10 +66,10 @@ rules =
     tiles ∷
     untouched ∷
     kind-fits ∷
-    claimed Jobs ∷
-    housed Jobs ∷
-    claimed Channels ∷
-    housed Channels ∷
+    block-matched Jobs ∷
+    entry-matched Jobs ∷
+    block-matched Channels ∷
+    entry-matched Channels ∷
     owner-live Jobs ∷
     owner-live Channels ∷
     holder-live ∷
@@ -80,5 +80,5 @@ rules =
     last-within Jobs ∷
     last-within Channels ∷
     current-ready ∷
-    waits-well ∷
+    wait-allowed ∷
     idle-zero ∷ []

@@ -9,10 +9,10 @@ use Rattle.picture.specs.declared.Table.the-variants.{Jobs, Channels}
 use Rattle.picture.specs.declared.Area.{Area}
 use Rattle.picture.specs.declared.Area.the-variants.{Heap, Transient}
 use Rattle.blocks.specs.Walk.{blocks}
-use Rattle.matching.specs.Match.{claimed, housed}
-use Rattle.records.specs.Rules.{zero-base, priority-within, accumulated-within, timeout-within, ends-in-one, blank, positioned, zero-exists, tag-within, tag-once, owner-live, owner-older, zero-unowned, tag-given, waits-well, idle-zero}
+use Rattle.matching.specs.Match.{block-matched, entry-matched}
+use Rattle.records.specs.Rules.{zero-base, priority-within, accumulated-within, timeout-within, ends-in-one, blank, positioned, zero-exists, tag-within, tag-once, owner-live, owner-older, zero-unowned, tag-given, wait-allowed, idle-zero}
 use Rattle.areas.specs.Rules.{length-whole, kind-known, start-zero, free-blank, queue-room, tiles, untouched, kind-fits, holder-live}
-use Rattle.sound.specs.Whole.{size-right, zero-right, heap-right, last-within, current-ready}
+use Rattle.sound.specs.Whole.{size-stated, seven-zero, heap-stated, last-within, current-ready}
 use Rattle.sound.specs.Rule.{Rule, rules}
 
 -- a test is one of the picture as a whole, of each record of a table, or of each block of both areas
@@ -28,9 +28,9 @@ passes p (each-block f) = all (f p Heap) (blocks p Heap) && all (f p Transient) 
 
 -- the test of each rule
 abbrev pub test : Rule → Test
-test Rule.size-right = whole size-right
-test Rule.zero-right = whole zero-right
-test Rule.heap-right = whole heap-right
+test Rule.size-stated = whole size-stated
+test Rule.seven-zero = whole seven-zero
+test Rule.heap-stated = whole heap-stated
 test Rule.zero-base = each-record Jobs zero-base
 test Rule.priority-within = each-record Jobs priority-within
 test Rule.accumulated-within = each-record Jobs accumulated-within
@@ -49,8 +49,8 @@ test Rule.queue-room = each-block (λ (p : List ℕ) (a : Area) (i : ℕ). queue
 test Rule.tiles = each-block (λ (p : List ℕ) (a : Area) (i : ℕ). tiles p (upto p a) i)
 test Rule.untouched = each-block (λ (p : List ℕ) (a : Area) (i : ℕ). untouched p (upto p a) i)
 test Rule.kind-fits = each-block kind-fits
-test (Rule.claimed t) = each-block (λ (p : List ℕ) (a : Area) (i : ℕ). claimed p t i)
-test (Rule.housed t) = each-record t (λ (p : List ℕ) (k : ℕ). housed p t k)
+test (Rule.block-matched t) = each-block (λ (p : List ℕ) (a : Area) (i : ℕ). block-matched p t i)
+test (Rule.entry-matched t) = each-record t (λ (p : List ℕ) (k : ℕ). entry-matched p t k)
 test (Rule.owner-live t) = each-record t (λ (p : List ℕ) (k : ℕ). owner-live p t k)
 test Rule.holder-live = each-block (λ (p : List ℕ) (a : Area) (i : ℕ). holder-live p i)
 test Rule.owner-older = each-record Jobs owner-older
@@ -58,7 +58,7 @@ test Rule.zero-unowned = each-record Jobs zero-unowned
 test (Rule.tag-given t) = each-record t (λ (p : List ℕ) (k : ℕ). tag-given p t k)
 test (Rule.last-within t) = whole (last-within t)
 test Rule.current-ready = whole current-ready
-test Rule.waits-well = each-record Jobs waits-well
+test Rule.wait-allowed = each-record Jobs wait-allowed
 test Rule.idle-zero = each-record Jobs idle-zero
 
 -- all rules of a list hold

@@ -11,11 +11,11 @@ use Rattle.matching.specs.declared.Walked.{Walked}
 use Rattle.matching.specs.declared.Walked.the-variants.{Broken, Counted}
 use Rattle.entries.specs.Entries.{entries-walked}
 use Rattle.walks.specs.Walks.{blocks-walked}
-use Rattle.sound.specs.Whole.{size-right, zero-right, heap-right, last-within, current-ready}
+use Rattle.sound.specs.Whole.{size-stated, seven-zero, heap-stated, last-within, current-ready}
 
 -- the rules of the picture as a whole
 unfoldable pub whole-fine : List ℕ → Bool
-whole-fine p = size-right p && (zero-right p && (heap-right p && (last-within Jobs p && (last-within Channels p && current-ready p))))
+whole-fine p = size-stated p && (seven-zero p && (heap-stated p && (last-within Jobs p && (last-within Channels p && current-ready p))))
 
 -- neither walk is broken, and both count as many
 abbrev pub as-many : Walked → Walked → Bool

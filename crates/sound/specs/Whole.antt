@@ -12,24 +12,24 @@ use Rattle.picture.specs.declared.Table.{Table}
 use Rattle.picture.specs.declared.Table.the-variants.{Jobs}
 
 -- "N of them: 1,024 to 16,384, a multiple of 4"
-abbrev pub size-good : ℕ → Bool
-size-good n = leb least-size n && (leb n greatest-size && eqb (n % 4) 0)
+abbrev pub size-within : ℕ → Bool
+size-within n = leb least-size n && (leb n greatest-size && eqb (n % 4) 0)
 
 -- "H is a multiple of 4, at least 4, and leaves the transient area at least 4"
-abbrev pub heap-good : ℕ → ℕ → Bool
-heap-good n h = eqb (h % 4) 0 && (leb 4 h && leb (heap-base + h + 4) n)
+abbrev pub heap-within : ℕ → ℕ → Bool
+heap-within n h = eqb (h % 4) 0 && (leb 4 h && leb (heap-base + h + 4) n)
 
--- longword 0 holds N, the lent length, and N is good
-unfoldable pub size-right : List ℕ → Bool
-size-right p = eqb (word p size-word) (length p) && size-good (length p)
+-- longword 0 holds N, the lent length, and N is within its limits
+unfoldable pub size-stated : List ℕ → Bool
+size-stated p = eqb (word p size-word) (length p) && size-within (length p)
 
 -- longword 7 holds 0
-unfoldable pub zero-right : List ℕ → Bool
-zero-right p = eqb (word p zero-word) 0
+unfoldable pub seven-zero : List ℕ → Bool
+seven-zero p = eqb (word p zero-word) 0
 
--- longword 4 holds H, and H is good
-unfoldable pub heap-right : List ℕ → Bool
-heap-right p = heap-good (word p size-word) (word p heap-word)
+-- longword 4 holds H, and H is within its limits
+unfoldable pub heap-stated : List ℕ → Bool
+heap-stated p = heap-within (word p size-word) (word p heap-word)
 
 -- "the last given, which is at most 32,767"
 unfoldable pub last-within : Table → List ℕ → Bool

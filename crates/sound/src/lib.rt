@@ -7,45 +7,45 @@ ghost use mathlib.Core.Path.{_≡_};
 ghost use mathlib.Core.Bool.{true};
 ghost use Prim.Native.Nat.{_<_};
 ghost use Rattle.matching.specs.Match.{area-of as areaOf};
-ghost use Rattle.sound.specs.Whole.{size-good as sizeGood, heap-good as heapGood, size-right as sizeRight, zero-right as zeroRight, heap-right as heapRight};
+ghost use Rattle.sound.specs.Whole.{size-within as sizeWithin, heap-within as heapWithin, size-stated as sizeStated, seven-zero as sevenZero, heap-stated as heapStated};
 ghost use Rattle.sound.specs.Whole.{last-within as lastWithin, current-ready as currentReady};
 ghost use Rattle.sound.specs.Sound.{sound};
 ghost use Rattle.sound.specs.Test.{whole-fine as wholeFine, half-fine as halfFine};
 
 // N is 1,024 to 16,384 and a multiple of 4.
-pub fn size_good(n: usize) -> bool
-    ensures { λ r. ⌜ r ≡ sizeGood n ⌝ }
+pub fn size_within(n: usize) -> bool
+    ensures { λ r. ⌜ r ≡ sizeWithin n ⌝ }
 {
     (picture::LEAST_SIZE <= n) & ((n <= picture::GREATEST_SIZE) & (n % 4 == 0))
 }
 
 // H is a multiple of 4, at least 4, and leaves the transient area at least 4.
-pub fn heap_good(n: usize, h: usize) -> bool
+pub fn heap_within(n: usize, h: usize) -> bool
     requires { ⌜ h < 4294967296 ⌝ }
-    ensures { λ r. ⌜ r ≡ heapGood n h ⌝ }
+    ensures { λ r. ⌜ r ≡ heapWithin n h ⌝ }
 {
     (h % 4 == 0) & ((4 <= h) & (picture::HEAP_BASE + h + 4 <= n))
 }
 
-// Longword 0 holds N, the lent length, and N is good.
-pub fn size_right(p: &[u32]) -> bool
-    ensures { λ r. ⌜ r ≡ sizeRight (now (p .entry)) ⌝ }
+// Longword 0 holds N, the lent length, and N is within its limits.
+pub fn size_stated(p: &[u32]) -> bool
+    ensures { λ r. ⌜ r ≡ sizeStated (now (p .entry)) ⌝ }
 {
-    (word(p, picture::SIZE_WORD) as usize == p.len()) & size_good(p.len())
+    (word(p, picture::SIZE_WORD) as usize == p.len()) & size_within(p.len())
 }
 
 // Longword 7 holds 0.
-pub fn zero_right(p: &[u32]) -> bool
-    ensures { λ r. ⌜ r ≡ zeroRight (now (p .entry)) ⌝ }
+pub fn seven_zero(p: &[u32]) -> bool
+    ensures { λ r. ⌜ r ≡ sevenZero (now (p .entry)) ⌝ }
 {
     word(p, picture::ZERO_WORD) == 0
 }
 
-// Longword 4 holds H, and H is good.
-pub fn heap_right(p: &[u32]) -> bool
-    ensures { λ r. ⌜ r ≡ heapRight (now (p .entry)) ⌝ }
+// Longword 4 holds H, and H is within its limits.
+pub fn heap_stated(p: &[u32]) -> bool
+    ensures { λ r. ⌜ r ≡ heapStated (now (p .entry)) ⌝ }
 {
-    heap_good(
+    heap_within(
         word(p, picture::SIZE_WORD) as usize,
         word(p, picture::HEAP_WORD) as usize,
     )
@@ -76,9 +76,9 @@ pub fn current_ready(p: &[u32]) -> bool
 pub fn is_whole_fine(p: &[u32]) -> bool
     ensures { λ r. ⌜ r ≡ wholeFine (now (p .entry)) ⌝ }
 {
-    size_right(p)
-        & (zero_right(p)
-            & (heap_right(p)
+    size_stated(p)
+        & (seven_zero(p)
+            & (heap_stated(p)
                 & (last_within(Table::Jobs, p)
                     & (last_within(Table::Channels, p) & current_ready(p)))))
 }
@@ -99,8 +99,8 @@ pub fn is_half_fine(p: &[u32], t: Table) -> bool
     ensures { λ r. ⌜ r ≡ halfFine (now (p .entry)) t ⌝ }
 {
     let mut noted = [0u8; 64];
-    let claims = entries::walk_entries(p, t, &mut noted);
-    let Walked::Counted(n) = claims else {
+    let walked = entries::walk_entries(p, t, &mut noted);
+    let Walked::Counted(n) = walked else {
         return false;
     };
     let a = area_of(t);

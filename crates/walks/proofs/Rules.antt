@@ -13,7 +13,7 @@ use Rattle.picture.specs.declared.Table.{Table}
 use Rattle.picture.specs.declared.Table.the-variants.{Jobs, Channels}
 use Rattle.blocks.specs.Header.{kind, plain-kind, queue-kind, job-kind, free, holder, start, kind-of}
 use Rattle.matching.specs.Match.{area-of}
-use Rattle.matching.specs.Met.{met}
+use Rattle.matching.specs.Agreed.{agreed}
 use Rattle.areas.specs.Rules.{length-whole, kind-known, start-zero, free-blank, queue-room, tiles, untouched, kind-fits, holder-live}
 use Rattle.walks.specs.Walks.{free-fine, held-fine, block-fine}
 
@@ -31,18 +31,18 @@ pub record Block (p : List ℕ) (t : Table) (e i : ℕ) : Type 0 where
 module _ (p : List ℕ) (i : ℕ) where
   -- the kinds of blocks that are not free, by area
   abbrev pub Sorted : Table → Type 0
-  Sorted Jobs = (kind p i ≡ job-kind) × (met p Jobs i ≡ true)
-  Sorted Channels = (start p i ≡ 0) × (((kind p i ≡ plain-kind) × (live p Jobs (holder p i) ≡ true)) ⊎ ((kind p i ≡ queue-kind) × ((queue-room p i ≡ true) × (met p Channels i ≡ true))))
+  Sorted Jobs = (kind p i ≡ job-kind) × (agreed p Jobs i ≡ true)
+  Sorted Channels = (start p i ≡ 0) × (((kind p i ≡ plain-kind) × (live p Jobs (holder p i) ≡ true)) ⊎ ((kind p i ≡ queue-kind) × ((queue-room p i ≡ true) × (agreed p Channels i ≡ true))))
 
   held-sorted : (t : Table) → held-fine p t i ≡ true → Sorted t
   unfolding held-fine
   held-sorted Jobs h = let a = both _ _ h in (eqb-true _ _ (a .0), a .1)
   held-sorted Channels h = let a = both (eqb (start p i) 0) _ h in (eqb-true _ _ (a .0), go (eqb (kind p i) plain-kind) refl (a .1))
     where
-      go : (b : Bool) → eqb (kind p i) plain-kind ≡ b → cond b (live p Jobs (holder p i)) (eqb (kind p i) queue-kind && (queue-room p i && met p Channels i)) ≡ true
-          → ((kind p i ≡ plain-kind) × (live p Jobs (holder p i) ≡ true)) ⊎ ((kind p i ≡ queue-kind) × ((queue-room p i ≡ true) × (met p Channels i ≡ true)))
+      go : (b : Bool) → eqb (kind p i) plain-kind ≡ b → cond b (live p Jobs (holder p i)) (eqb (kind p i) queue-kind && (queue-room p i && agreed p Channels i)) ≡ true
+          → ((kind p i ≡ plain-kind) × (live p Jobs (holder p i) ≡ true)) ⊎ ((kind p i ≡ queue-kind) × ((queue-room p i ≡ true) × (agreed p Channels i ≡ true)))
       go true e r = inl (eqb-true _ _ e, r)
-      go false e r = let c = both (eqb (kind p i) queue-kind) _ r in inr (eqb-true _ _ (c .0), both (queue-room p i) (met p Channels i) (c .1))
+      go false e r = let c = both (eqb (kind p i) queue-kind) _ r in inr (eqb-true _ _ (c .0), both (queue-room p i) (agreed p Channels i) (c .1))
 
   sorted-held : (t : Table) → Sorted t → held-fine p t i ≡ true
   unfolding held-fine
@@ -120,16 +120,16 @@ module _ (p : List ℕ) (i : ℕ) where
       ⊎-elim (λ f. free-block t e (q .size) (q .tile) (f .0) (f .1)) (λ f. held-block t e (q .size) (q .tile) (f .1)) (q .sorts)
 
   -- and agrees with a record where it is of the table's kind
-  pub fine-met : (t : Table) (e : ℕ) → block-fine p t e i ≡ true → kind p i ≡ kind-of t → met p t i ≡ true
-  fine-met t e h k = ⊎-elim (λ f. absurd (not-free t k (eqb-true (kind p i) 0 (f .0)))) (λ f. sorted-met t k (f .1)) (fine-parts t e h .sorts)
+  pub fine-agreed : (t : Table) (e : ℕ) → block-fine p t e i ≡ true → kind p i ≡ kind-of t → agreed p t i ≡ true
+  fine-agreed t e h k = ⊎-elim (λ f. absurd (not-free t k (eqb-true (kind p i) 0 (f .0)))) (λ f. sorted-agreed t k (f .1)) (fine-parts t e h .sorts)
     where
       not-free : (t : Table) → kind p i ≡ kind-of t → kind p i ≡ 0 → ⊥
       not-free Jobs k z = omega arith
       not-free Channels k z = omega arith
 
-      sorted-met : (t : Table) → kind p i ≡ kind-of t → Sorted t → met p t i ≡ true
-      sorted-met Jobs k s = s .1
-      sorted-met Channels k s = ⊎-elim (λ c. absurd (let z = c .0 in omega arith)) (λ c. c .1 .1) (s .1)
+      sorted-agreed : (t : Table) → kind p i ≡ kind-of t → Sorted t → agreed p t i ≡ true
+      sorted-agreed Jobs k s = s .1
+      sorted-agreed Channels k s = ⊎-elim (λ c. absurd (let z = c .0 in omega arith)) (λ c. c .1 .1) (s .1)
 
   -- its owner is live where that holds of the table's kind
   pub fine-held : (t : Table) (e : ℕ) → block-fine p t e i ≡ true → (kind p i ≡ kind-of t → holder-live p i ≡ true) → holder-live p i ≡ true
@@ -145,7 +145,7 @@ module _ (p : List ℕ) (i : ℕ) where
   free-or-not true h = inl h
   free-or-not false h = inr h
 
-  sorted : (t : Table) (e : ℕ) → Block p t e i → free p i ≡ false → (kind p i ≡ kind-of t → met p t i ≡ true) → holder-live p i ≡ true → Sorted t
+  sorted : (t : Table) (e : ℕ) → Block p t e i → free p i ≡ false → (kind p i ≡ kind-of t → agreed p t i ≡ true) → holder-live p i ≡ true → Sorted t
   unfolding kind-known kind-fits start-zero holder-live
   sorted Jobs e b f m o =
       let a = leb-true (kind p i) 3 (b .known) in
@@ -160,7 +160,7 @@ module _ (p : List ℕ) (i : ℕ) where
       let s = eqb-true (start p i) 0 (failing (eqb (kind p i) job-kind) _ (b .start) n) in
       (s, go (eqb (kind p i) plain-kind) refl)
     where
-      go : (c : Bool) → eqb (kind p i) plain-kind ≡ c → ((kind p i ≡ plain-kind) × (live p Jobs (holder p i) ≡ true)) ⊎ ((kind p i ≡ queue-kind) × ((queue-room p i ≡ true) × (met p Channels i ≡ true)))
+      go : (c : Bool) → eqb (kind p i) plain-kind ≡ c → ((kind p i ≡ plain-kind) × (live p Jobs (holder p i) ≡ true)) ⊎ ((kind p i ≡ queue-kind) × ((queue-room p i ≡ true) × (agreed p Channels i ≡ true)))
       go true c = let k = eqb-true (kind p i) plain-kind c in inl (k, rw (k) at o)
       go false c =
           let z = eqb-false (kind p i) plain-kind c in
@@ -170,7 +170,7 @@ module _ (p : List ℕ) (i : ℕ) where
           let k : kind p i ≡ queue-kind = omega arith in
           inr (k, (b .queue, m k))
 
-  pub is-block : (t : Table) (e : ℕ) → Block p t e i → (kind p i ≡ kind-of t → met p t i ≡ true) → holder-live p i ≡ true → block-fine p t e i ≡ true
+  pub is-block : (t : Table) (e : ℕ) → Block p t e i → (kind p i ≡ kind-of t → agreed p t i ≡ true) → holder-live p i ≡ true → block-fine p t e i ≡ true
   unfolding free-fine
   is-block t e b m o = parts-fine t e (record {
     size = b .size;

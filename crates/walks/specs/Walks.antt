@@ -9,7 +9,7 @@ use Rattle.picture.specs.declared.Table.{Table}
 use Rattle.picture.specs.declared.Table.the-variants.{Jobs, Channels}
 use Rattle.blocks.specs.Header.{kind, plain-kind, queue-kind, job-kind, free, holder, start, kind-of}
 use Rattle.blocks.specs.Walk.{starts}
-use Rattle.matching.specs.Met.{met}
+use Rattle.matching.specs.Agreed.{agreed}
 use Rattle.matching.specs.declared.Walked.{Walked}
 use Rattle.matching.specs.declared.Walked.the-variants.{Broken, Counted}
 use Rattle.areas.specs.Rules.{length-whole, free-blank, queue-room, tiles, untouched}
@@ -20,9 +20,9 @@ free-fine p e i = free-blank p i && untouched p e i
 
 -- the rules of a block that is not free: a job's in the transient area, plain or a queue's in the heap
 unfoldable pub held-fine : List ℕ → Table → ℕ → Bool
-held-fine p Jobs i = eqb (kind p i) job-kind && met p Jobs i
+held-fine p Jobs i = eqb (kind p i) job-kind && agreed p Jobs i
 held-fine p Channels i = eqb (start p i) 0
-    && cond (eqb (kind p i) plain-kind) (live p Jobs (holder p i)) (eqb (kind p i) queue-kind && (queue-room p i && met p Channels i))
+    && cond (eqb (kind p i) plain-kind) (live p Jobs (holder p i)) (eqb (kind p i) queue-kind && (queue-room p i && agreed p Channels i))
 
 -- the rules of a block of the table's area, which ends at e
 unfoldable pub block-fine : List ℕ → Table → ℕ → ℕ → Bool

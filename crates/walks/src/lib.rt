@@ -29,10 +29,10 @@ pub fn is_transient_fine(p: &[u32], i: usize, noted: &[u8; 64]) -> bool
     if word_at(p, i + blocks::KIND) != blocks::JOB {
         return false;
     }
-    if matching::is_noticed(p, Table::Jobs, i, noted) {
+    if matching::is_agreed_as_noted(p, Table::Jobs, i, noted) {
         return true;
     }
-    matching::is_met(p, Table::Jobs, i)
+    matching::is_agreed(p, Table::Jobs, i)
 }
 
 // The rules of a block of the heap that is not free.
@@ -53,10 +53,10 @@ pub fn is_heap_fine(p: &[u32], i: usize, noted: &[u8; 64]) -> bool
     if !areas::queue_room(p, i) {
         return false;
     }
-    if matching::is_noticed(p, Table::Channels, i, noted) {
+    if matching::is_agreed_as_noted(p, Table::Channels, i, noted) {
         return true;
     }
-    matching::is_met(p, Table::Channels, i)
+    matching::is_agreed(p, Table::Channels, i)
 }
 
 // The rules of a block of the table's area that is not free.

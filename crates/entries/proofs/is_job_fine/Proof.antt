@@ -13,7 +13,7 @@ use Rattle.job_records.proofs.idle_zero.Reads as idle-zero-reads
 use Rattle.job_records.proofs.owner_older.Reads as owner-older-reads
 use Rattle.job_records.proofs.priority_within.Reads as priority-within-reads
 use Rattle.job_records.proofs.timeout_within.Reads as timeout-within-reads
-use Rattle.job_records.proofs.waits_well.Reads as waits-well-reads
+use Rattle.job_records.proofs.wait_allowed.Reads as wait-allowed-reads
 
 is-entry-fine-requires : tie.Need-is-entry-fine-requires
 is-entry-fine-requires c κs = search needs
@@ -77,8 +77,8 @@ returns-6 c =
     let v = w .before .before in
     rw (sym (v .before .is-entry-fine .ensures) ∙ not-false _ (v .if1 .left), sym (w .before .is-zero-fine .ensures) ∙ not-false _ (w .if2 .left), sym (x .before .priority-within .ensures) ∙ not-false _ (x .if3 .left), sym (y .before .accumulated-within .ensures) ∙ not-false _ (y .if4 .left), sym (z .before .timeout-within .ensures) ∙ not-false _ (z .if5 .left), sym (c .before .owner-older .ensures) ∙ not-true _ (c .if6 .taken))
 
-waits-well-requires : tie.Need-waits-well-requires
-waits-well-requires c κs = search needs
+wait-allowed-requires : tie.Need-wait-allowed-requires
+wait-allowed-requires c κs = search needs
 
 returns-7 : tie.Need-returns-7
 unfolding live-fine
@@ -89,7 +89,7 @@ returns-7 c =
     let w = x .before .before in
     let v = w .before .before in
     let u = v .before .before in
-    rw (sym (u .before .is-entry-fine .ensures) ∙ not-false _ (u .if1 .left), sym (v .before .is-zero-fine .ensures) ∙ not-false _ (v .if2 .left), sym (w .before .priority-within .ensures) ∙ not-false _ (w .if3 .left), sym (x .before .accumulated-within .ensures) ∙ not-false _ (x .if4 .left), sym (y .before .timeout-within .ensures) ∙ not-false _ (y .if5 .left), sym (z .before .owner-older .ensures) ∙ not-false _ (z .if6 .left), sym (c .before .waits-well .ensures) ∙ not-true _ (c .if7 .taken))
+    rw (sym (u .before .is-entry-fine .ensures) ∙ not-false _ (u .if1 .left), sym (v .before .is-zero-fine .ensures) ∙ not-false _ (v .if2 .left), sym (w .before .priority-within .ensures) ∙ not-false _ (w .if3 .left), sym (x .before .accumulated-within .ensures) ∙ not-false _ (x .if4 .left), sym (y .before .timeout-within .ensures) ∙ not-false _ (y .if5 .left), sym (z .before .owner-older .ensures) ∙ not-false _ (z .if6 .left), sym (c .before .wait-allowed .ensures) ∙ not-true _ (c .if7 .taken))
 
 idle-zero-requires : tie.Need-idle-zero-requires
 idle-zero-requires c κs = search needs
@@ -104,7 +104,7 @@ returns-8 c =
     let v = w .before .before in
     let u = v .before .before in
     let t = u .before .before in
-    rw (sym (t .before .is-entry-fine .ensures) ∙ not-false _ (t .if1 .left), sym (u .before .is-zero-fine .ensures) ∙ not-false _ (u .if2 .left), sym (v .before .priority-within .ensures) ∙ not-false _ (v .if3 .left), sym (w .before .accumulated-within .ensures) ∙ not-false _ (w .if4 .left), sym (x .before .timeout-within .ensures) ∙ not-false _ (x .if5 .left), sym (y .before .owner-older .ensures) ∙ not-false _ (y .if6 .left), sym (z .before .waits-well .ensures) ∙ not-false _ (z .if7 .left), c .idle-zero .ensures)
+    rw (sym (t .before .is-entry-fine .ensures) ∙ not-false _ (t .if1 .left), sym (u .before .is-zero-fine .ensures) ∙ not-false _ (u .if2 .left), sym (v .before .priority-within .ensures) ∙ not-false _ (v .if3 .left), sym (w .before .accumulated-within .ensures) ∙ not-false _ (w .if4 .left), sym (x .before .timeout-within .ensures) ∙ not-false _ (x .if5 .left), sym (y .before .owner-older .ensures) ∙ not-false _ (y .if6 .left), sym (z .before .wait-allowed .ensures) ∙ not-false _ (z .if7 .left), c .idle-zero .ensures)
 
 pub is-job-fine-spec : {M : Type 1} → statement M
 is-job-fine-spec =
@@ -122,7 +122,7 @@ is-job-fine-spec =
     returns-5
     owner-older-requires
     returns-6
-    waits-well-requires
+    wait-allowed-requires
     returns-7
     idle-zero-requires
     returns-8)

@@ -1,5 +1,5 @@
 use Rattle.records.specs.Rules.{tag-within}
-use Rattle.records.proofs.Used.{claims-used}
+use Rattle.records.proofs.Used.{has-block-used}
 use borrow.Author.Needs.{needs}
 use Rattle.records.proofs.tag_within.Statement.{statement}
 use Rattle.records.proofs.tag_within.Tie as tie
@@ -16,7 +16,7 @@ first-of-requires c κs = search needs
 
 returns : tie.Need-returns
 unfolding tag-within
-returns c = rw (c .first-of .ensures, c .before .tag-at .ensures, claims-used _ _ _ (c .before .before .before .pre .1 .1))
+returns c = rw (c .first-of .ensures, c .before .tag-at .ensures, has-block-used _ _ _ (c .before .before .before .pre .1 .1))
 
 pub tag-within-spec : {M : Type 1} → statement M
 tag-within-spec = tie.close (tie.spec tag-at-requires first-of-requires returns)

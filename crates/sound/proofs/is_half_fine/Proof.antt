@@ -15,8 +15,8 @@ use Rattle.walks.proofs.walk_blocks.Reads as walk-blocks-reads
 walk-entries-requires : tie.Need-walk-entries-requires
 walk-entries-requires c κs = tables-within _ (c .before .before .pre)
 
-enum-known-claims : tie.Need-enum-known-claims
-enum-known-claims c = search needs
+enum-known-walked : tie.Need-enum-known-walked
+enum-known-walked c = search needs
 
 enum-told : tie.Need-enum-told
 enum-told c = search needs
@@ -52,7 +52,7 @@ returns-2 c =
     let w = c .before .before in
     let u = w .before .before in
     let k = u .before .before .before .before in
-    rw (sym (k .before .before .walk-entries .ensures) ∙ k .claims .given .1, sym (rw (u .area-upto .ensures .0, u .before .area-from .ensures .0, u .before .before .area-of .ensures) at (w .walk-blocks .ensures)) ∙ c .enum-told2 .given .1)
+    rw (sym (k .before .before .walk-entries .ensures) ∙ k .walked .given .1, sym (rw (u .area-upto .ensures .0, u .before .area-from .ensures .0, u .before .before .area-of .ensures) at (w .walk-blocks .ensures)) ∙ c .enum-told2 .given .1)
 
 returns-3 : tie.Need-returns-3
 unfolding half-fine
@@ -61,14 +61,14 @@ returns-3 c =
     let w = f .before .before in
     let u = w .before .before in
     let k = u .before .before .before .before in
-    rw (sym (k .before .before .walk-entries .ensures) ∙ k .claims .given .1, sym (rw (u .area-upto .ensures .0, u .before .area-from .ensures .0, u .before .before .area-of .ensures) at (w .walk-blocks .ensures)) ∙ f .found .given .1)
+    rw (sym (k .before .before .walk-entries .ensures) ∙ k .walked .given .1, sym (rw (u .area-upto .ensures .0, u .before .area-from .ensures .0, u .before .before .area-of .ensures) at (w .walk-blocks .ensures)) ∙ f .found .given .1)
 
 pub is-half-fine-spec : {M : Type 1} → statement M
 is-half-fine-spec =
     tie.close
     (tie.spec
     walk-entries-requires
-    enum-known-claims
+    enum-known-walked
     enum-told
     returns
     area-of-requires

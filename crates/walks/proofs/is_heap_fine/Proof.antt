@@ -1,5 +1,5 @@
 use Rattle.walks.specs.Walks.{held-fine}
-use Rattle.matching.proofs.Meeting.{noticed-met}
+use Rattle.matching.proofs.Agreeing.{noted-agreed}
 use borrow.Author.Tests.{eq-eqb, ne-eqb, not-true, not-false}
 use mathlib.Core.Path.{sym, _∙_}
 use borrow.Author.Needs.{needs}
@@ -8,8 +8,8 @@ use Rattle.walks.proofs.is_heap_fine.Tie as tie
 use Rattle.walks.proofs.is_heap_fine.Reads as reads
 use Rattle.walks.proofs.is_heap_fine.Lts as lts
 use Rattle.areas.proofs.queue_room.Reads as queue-room-reads
-use Rattle.matching.proofs.is_met.Reads as is-met-reads
-use Rattle.matching.proofs.is_noticed.Reads as is-noticed-reads
+use Rattle.matching.proofs.is_agreed.Reads as is-agreed-reads
+use Rattle.matching.proofs.is_agreed_as_noted.Reads as is-agreed-as-noted-reads
 use Rattle.tables.proofs.is_live.Reads as is-live-reads
 use Rattle.picture.proofs.word_at.Reads as word-at-reads
 
@@ -63,8 +63,8 @@ returns-4 c =
     let s = k .before .before in
     rw (eq-eqb _ _ (rw (s .before .word-at .ensures) at (s .if1 .left)), ne-eqb _ _ (rw (k .before .word-at2 .ensures) at (k .if2 .left)), eq-eqb _ _ (rw (k .before .word-at2 .ensures) at (q .if3 .left)), sym (c .before .queue-room .ensures) ∙ not-true _ (c .if4 .taken))
 
-is-noticed-requires : tie.Need-is-noticed-requires
-is-noticed-requires c κs = search needs
+is-agreed-as-noted-requires : tie.Need-is-agreed-as-noted-requires
+is-agreed-as-noted-requires c κs = search needs
 
 returns-5 : tie.Need-returns-5
 unfolding held-fine
@@ -73,10 +73,10 @@ returns-5 c =
     let q = r .before .before in
     let k = q .before in
     let s = k .before .before in
-    rw (eq-eqb _ _ (rw (s .before .word-at .ensures) at (s .if1 .left)), ne-eqb _ _ (rw (k .before .word-at2 .ensures) at (k .if2 .left)), eq-eqb _ _ (rw (k .before .word-at2 .ensures) at (q .if3 .left)), sym (r .before .queue-room .ensures) ∙ not-false _ (r .if4 .left), noticed-met _ _ _ _ (sym (c .before .is-noticed .ensures) ∙ c .if5 .taken))
+    rw (eq-eqb _ _ (rw (s .before .word-at .ensures) at (s .if1 .left)), ne-eqb _ _ (rw (k .before .word-at2 .ensures) at (k .if2 .left)), eq-eqb _ _ (rw (k .before .word-at2 .ensures) at (q .if3 .left)), sym (r .before .queue-room .ensures) ∙ not-false _ (r .if4 .left), noted-agreed _ _ _ _ (sym (c .before .is-agreed-as-noted .ensures) ∙ c .if5 .taken))
 
-is-met-requires : tie.Need-is-met-requires
-is-met-requires c κs = search needs
+is-agreed-requires : tie.Need-is-agreed-requires
+is-agreed-requires c κs = search needs
 
 returns-6 : tie.Need-returns-6
 unfolding held-fine
@@ -85,7 +85,7 @@ returns-6 c =
     let q = r .before .before in
     let k = q .before in
     let s = k .before .before in
-    rw (eq-eqb _ _ (rw (s .before .word-at .ensures) at (s .if1 .left)), ne-eqb _ _ (rw (k .before .word-at2 .ensures) at (k .if2 .left)), eq-eqb _ _ (rw (k .before .word-at2 .ensures) at (q .if3 .left)), sym (r .before .queue-room .ensures) ∙ not-false _ (r .if4 .left), c .is-met .ensures)
+    rw (eq-eqb _ _ (rw (s .before .word-at .ensures) at (s .if1 .left)), ne-eqb _ _ (rw (k .before .word-at2 .ensures) at (k .if2 .left)), eq-eqb _ _ (rw (k .before .word-at2 .ensures) at (q .if3 .left)), sym (r .before .queue-room .ensures) ∙ not-false _ (r .if4 .left), c .is-agreed .ensures)
 
 pub is-heap-fine-spec : {M : Type 1} → statement M
 is-heap-fine-spec =
@@ -103,7 +103,7 @@ is-heap-fine-spec =
     returns-3
     queue-room-requires
     returns-4
-    is-noticed-requires
+    is-agreed-as-noted-requires
     returns-5
-    is-met-requires
+    is-agreed-requires
     returns-6)

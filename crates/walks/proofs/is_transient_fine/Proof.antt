@@ -1,5 +1,5 @@
 use Rattle.walks.specs.Walks.{held-fine}
-use Rattle.matching.proofs.Meeting.{noticed-met}
+use Rattle.matching.proofs.Agreeing.{noted-agreed}
 use borrow.Author.Tests.{eq-eqb, ne-eqb}
 use mathlib.Core.Path.{sym, _∙_}
 use borrow.Author.Needs.{needs}
@@ -7,8 +7,8 @@ use Rattle.walks.proofs.is_transient_fine.Statement.{statement}
 use Rattle.walks.proofs.is_transient_fine.Tie as tie
 use Rattle.walks.proofs.is_transient_fine.Reads as reads
 use Rattle.walks.proofs.is_transient_fine.Lts as lts
-use Rattle.matching.proofs.is_met.Reads as is-met-reads
-use Rattle.matching.proofs.is_noticed.Reads as is-noticed-reads
+use Rattle.matching.proofs.is_agreed.Reads as is-agreed-reads
+use Rattle.matching.proofs.is_agreed_as_noted.Reads as is-agreed-as-noted-reads
 use Rattle.picture.proofs.word_at.Reads as word-at-reads
 
 add-word-at : tie.Need-add-word-at
@@ -21,23 +21,23 @@ returns : tie.Need-returns
 unfolding held-fine
 returns c = rw (ne-eqb _ _ (rw (c .before .word-at .ensures) at (c .if1 .taken)))
 
-is-noticed-requires : tie.Need-is-noticed-requires
-is-noticed-requires c κs = search needs
+is-agreed-as-noted-requires : tie.Need-is-agreed-as-noted-requires
+is-agreed-as-noted-requires c κs = search needs
 
 returns-2 : tie.Need-returns-2
 unfolding held-fine
 returns-2 c =
     let d = c .before .before in
-    rw (eq-eqb _ _ (rw (d .before .word-at .ensures) at (d .if1 .left)), noticed-met _ _ _ _ (sym (c .before .is-noticed .ensures) ∙ c .if2 .taken))
+    rw (eq-eqb _ _ (rw (d .before .word-at .ensures) at (d .if1 .left)), noted-agreed _ _ _ _ (sym (c .before .is-agreed-as-noted .ensures) ∙ c .if2 .taken))
 
-is-met-requires : tie.Need-is-met-requires
-is-met-requires c κs = search needs
+is-agreed-requires : tie.Need-is-agreed-requires
+is-agreed-requires c κs = search needs
 
 returns-3 : tie.Need-returns-3
 unfolding held-fine
 returns-3 c =
     let d = c .before .before .before in
-    rw (eq-eqb _ _ (rw (d .before .word-at .ensures) at (d .if1 .left)), c .is-met .ensures)
+    rw (eq-eqb _ _ (rw (d .before .word-at .ensures) at (d .if1 .left)), c .is-agreed .ensures)
 
 pub is-transient-fine-spec : {M : Type 1} → statement M
 is-transient-fine-spec =
@@ -46,7 +46,7 @@ is-transient-fine-spec =
     add-word-at
     word-at-requires
     returns
-    is-noticed-requires
+    is-agreed-as-noted-requires
     returns-2
-    is-met-requires
+    is-agreed-requires
     returns-3)

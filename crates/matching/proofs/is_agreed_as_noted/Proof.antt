@@ -1,11 +1,11 @@
-use Rattle.matching.specs.Met.{noticed}
+use Rattle.matching.specs.Agreed.{agreed-as-noted}
 use borrow.Author.Tests.{lt-ltb, le-ltb}
 use borrow.Author.Needs.{needs}
-use Rattle.matching.proofs.is_noticed.Statement.{statement}
-use Rattle.matching.proofs.is_noticed.Tie as tie
-use Rattle.matching.proofs.is_noticed.Reads as reads
-use Rattle.matching.proofs.is_noticed.Lts as lts
-use Rattle.matching.proofs.is_meeting.Reads as is-meeting-reads
+use Rattle.matching.proofs.is_agreed_as_noted.Statement.{statement}
+use Rattle.matching.proofs.is_agreed_as_noted.Tie as tie
+use Rattle.matching.proofs.is_agreed_as_noted.Reads as reads
+use Rattle.matching.proofs.is_agreed_as_noted.Lts as lts
+use Rattle.matching.proofs.is_agreeing.Reads as is-agreeing-reads
 use Rattle.matching.proofs.wide.Reads as wide-reads
 use Rattle.picture.proofs.positions_of.Reads as positions-of-reads
 
@@ -19,28 +19,28 @@ positions-of-requires : tie.Need-positions-of-requires
 positions-of-requires c κs = search needs
 
 returns : tie.Need-returns
-unfolding noticed
+unfolding agreed-as-noted
 returns c =
     let w = c .before in
     rw (le-ltb _ _ (rw (w .positions-of .ensures, w .before .wide .ensures) at (c .if1 .taken)))
 
-is-meeting-requires : tie.Need-is-meeting-requires
-is-meeting-requires c κs = search needs
+is-agreeing-requires : tie.Need-is-agreeing-requires
+is-agreeing-requires c κs = search needs
 
 returns-2 : tie.Need-returns-2
-unfolding noticed
+unfolding agreed-as-noted
 returns-2 c =
     let e = c .before in
     let w = e .before in
-    rw (lt-ltb _ _ (rw (w .positions-of .ensures, w .before .wide .ensures) at (e .if1 .left)), c .is-meeting .ensures, w .before .wide .ensures)
+    rw (lt-ltb _ _ (rw (w .positions-of .ensures, w .before .wide .ensures) at (e .if1 .left)), c .is-agreeing .ensures, w .before .wide .ensures)
 
-pub is-noticed-spec : {M : Type 1} → statement M
-is-noticed-spec =
+pub is-agreed-as-noted-spec : {M : Type 1} → statement M
+is-agreed-as-noted-spec =
     tie.close
     (tie.spec
     element-copy-out-wide
     wide-requires
     positions-of-requires
     returns
-    is-meeting-requires
+    is-agreeing-requires
     returns-2)

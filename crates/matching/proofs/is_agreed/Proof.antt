@@ -1,5 +1,5 @@
-use Rattle.matching.proofs.Meeting.{met-at, met-none}
-use Rattle.matching.specs.Met.{meets}
+use Rattle.matching.proofs.Agreeing.{agreed-at, agreed-none}
+use Rattle.matching.specs.Agreed.{agrees}
 use Rattle.words.specs.Each.{every}
 use Rattle.words.proofs.Each.{every-next}
 use Rattle.picture.specs.Layout.{positions}
@@ -8,15 +8,15 @@ use mathlib.Core.Path.{_≡_, refl, sym, ap, _∙_}
 use Prim.Native.Nat.{ℕ, _-_, _≤_}
 use borrow.Author.Needs.{needs}
 use native.Mathlib.Omega.{arith}
-use Rattle.matching.proofs.is_met.Statement.{statement}
-use Rattle.matching.proofs.is_met.Tie as tie
-use Rattle.matching.proofs.is_met.Reads as reads
-use Rattle.matching.proofs.is_met.Lts as lts
-use Rattle.matching.proofs.is_meeting.Reads as is-meeting-reads
+use Rattle.matching.proofs.is_agreed.Statement.{statement}
+use Rattle.matching.proofs.is_agreed.Tie as tie
+use Rattle.matching.proofs.is_agreed.Reads as reads
+use Rattle.matching.proofs.is_agreed.Lts as lts
+use Rattle.matching.proofs.is_agreeing.Reads as is-agreeing-reads
 use Rattle.picture.proofs.positions_of.Reads as positions-of-reads
 
 abbrev Inv-loop : tie.InvT-loop
-Inv-loop p t i n k₀ k = (n ≡ positions t) × ((k ≤ n) × (every (λ (j : ℕ). not (meets p t j i)) k ≡ true))
+Inv-loop p t i n k₀ k = (n ≡ positions t) × ((k ≤ n) × (every (λ (j : ℕ). not (agrees p t j i)) k ≡ true))
 
 abbrev μ-loop : tie.MeasureT-loop
 μ-loop p t i n k₀ k = n - k
@@ -27,14 +27,14 @@ positions-of-requires c κs = search needs
 loop-holds : tie.Need-loop-holds Inv-loop μ-loop
 loop-holds c = (c .positions-of .ensures, (omega arith, refl))
 
-is-meeting-requires : tie.Need-is-meeting-requires Inv-loop μ-loop
-is-meeting-requires c κs = let l = c .before in let s = l .before .before .before in (s .pre .0, (rw (l .loop .inv .0) at (c .loop-test .taken), s .pre .1))
+is-agreeing-requires : tie.Need-is-agreeing-requires Inv-loop μ-loop
+is-agreeing-requires c κs = let l = c .before in let s = l .before .before .before in (s .pre .0, (rw (l .loop .inv .0) at (c .loop-test .taken), s .pre .1))
 
 returns : tie.Need-returns Inv-loop μ-loop
 returns c =
     let l = c .before .before in
     let a = l .before .before .before .before .args in
-    sym (met-at _ _ _ (l .before .loop .k) (rw (l .before .loop .inv .0) at (l .loop-test .taken)) (sym (c .before .is-meeting .ensures) ∙ c .if1 .taken))
+    sym (agreed-at _ _ _ (l .before .loop .k) (rw (l .before .loop .inv .0) at (l .loop-test .taken)) (sym (c .before .is-agreeing .ensures) ∙ c .if1 .taken))
 
 add-k : tie.Need-add-k Inv-loop μ-loop
 add-k c = search needs
@@ -47,24 +47,24 @@ loop-again c =
     let l = c .before .before in
     let a = l .before .before .before .before .args in
     let i = l .before .loop .inv in
-    (i .0, (omega arith, every-next (λ (j : ℕ). not (meets (a .p .now) (a .t) j (a .i))) (l .before .loop .k) (i .1 .1) (ap not (sym (c .before .is-meeting .ensures) ∙ c .if1 .left))))
+    (i .0, (omega arith, every-next (λ (j : ℕ). not (agrees (a .p .now) (a .t) j (a .i))) (l .before .loop .k) (i .1 .1) (ap not (sym (c .before .is-agreeing .ensures) ∙ c .if1 .left))))
 
 returns-2 : tie.Need-returns-2 Inv-loop μ-loop
 returns-2 c =
     let d = c .before .loop in
     let a = c .before .before .before .before .args in
     let e : d .k ≡ positions (a .t) = (let z : d .k ≡ c .before .before .positions-of .result = omega arith in z) ∙ d .inv .0 in
-    sym (met-none _ _ _ (ap (every (λ (j : ℕ). not (meets (a .p .now) (a .t) j (a .i)))) (sym e) ∙ d .inv .1 .1))
+    sym (agreed-none _ _ _ (ap (every (λ (j : ℕ). not (agrees (a .p .now) (a .t) j (a .i)))) (sym e) ∙ d .inv .1 .1))
 
-pub is-met-spec : {M : Type 1} → statement M
-is-met-spec =
+pub is-agreed-spec : {M : Type 1} → statement M
+is-agreed-spec =
     tie.close
     (tie.spec
     Inv-loop
     μ-loop
     positions-of-requires
     loop-holds
-    is-meeting-requires
+    is-agreeing-requires
     returns
     add-k
     loop-less

@@ -1,10 +1,10 @@
-use Rattle.records.specs.Rules.{waits-well}
+use Rattle.records.specs.Rules.{wait-allowed}
 use borrow.Author.Tests.{eq-eqb, ne-eqb}
 use borrow.Author.Needs.{needs}
-use Rattle.job_records.proofs.waits_well.Statement.{statement}
-use Rattle.job_records.proofs.waits_well.Tie as tie
-use Rattle.job_records.proofs.waits_well.Reads as reads
-use Rattle.job_records.proofs.waits_well.Lts as lts
+use Rattle.job_records.proofs.wait_allowed.Statement.{statement}
+use Rattle.job_records.proofs.wait_allowed.Tie as tie
+use Rattle.job_records.proofs.wait_allowed.Reads as reads
+use Rattle.job_records.proofs.wait_allowed.Lts as lts
 use Rattle.tables.proofs.field_of.Reads as field-of-reads
 use Rattle.tables.proofs.is_live.Reads as is-live-reads
 
@@ -12,7 +12,7 @@ field-of-requires : tie.Need-field-of-requires
 field-of-requires c κs = search needs
 
 returns : tie.Need-returns
-unfolding waits-well
+unfolding wait-allowed
 returns c = rw (eq-eqb _ _ (rw (c .before .field-of .ensures) at (c .if1 .taken)))
 
 is-live-requires : tie.Need-is-live-requires
@@ -25,11 +25,11 @@ field-of-requires-3 : tie.Need-field-of-requires-3
 field-of-requires-3 c κs = search needs
 
 returns-2 : tie.Need-returns-2
-unfolding waits-well
+unfolding wait-allowed
 returns-2 c = let d = c .before .before .before in rw (c .field-of3 .ensures, c .before .field-of2 .ensures, c .before .before .is-live .ensures, d .before .field-of .ensures, ne-eqb _ _ (rw (d .before .field-of .ensures) at (d .if1 .left)))
 
-pub waits-well-spec : {M : Type 1} → statement M
-waits-well-spec =
+pub wait-allowed-spec : {M : Type 1} → statement M
+wait-allowed-spec =
     tie.close
     (tie.spec
     field-of-requires

@@ -11,16 +11,16 @@ use Rattle.picture.specs.declared.Table.{Table}
 use Rattle.blocks.specs.Header.{holder}
 
 -- the block at i and the record of position k agree: base and owner
-unfoldable pub meets : List ℕ → Table → ℕ → ℕ → Bool
-meets p t k i = eqb (base p t k) (4 * i) && eqb (owner p t k) (holder p i)
+unfoldable pub agrees : List ℕ → Table → ℕ → ℕ → Bool
+agrees p t k i = eqb (base p t k) (4 * i) && eqb (owner p t k) (holder p i)
 
 -- the block at i agrees with some record of the table
-unfoldable pub met : List ℕ → Table → ℕ → Bool
-met p t i = not (every (λ (k : ℕ). not (meets p t k i)) (positions t))
+unfoldable pub agreed : List ℕ → Table → ℕ → Bool
+agreed p t i = not (every (λ (k : ℕ). not (agrees p t k i)) (positions t))
 
 -- the position noted for the place of the block at i, and that the block agrees with its record
 abbrev pub position-noted : List ℕ → ℕ → ℕ
 position-noted l i = getD l (i / 4 % 64) 0
 
-unfoldable pub noticed : List ℕ → Table → ℕ → List ℕ → Bool
-noticed p t i l = ltb (position-noted l i) (positions t) && meets p t (position-noted l i) i
+unfoldable pub agreed-as-noted : List ℕ → Table → ℕ → List ℕ → Bool
+agreed-as-noted p t i l = ltb (position-noted l i) (positions t) && agrees p t (position-noted l i) i

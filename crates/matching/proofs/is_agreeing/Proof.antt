@@ -1,12 +1,12 @@
 use Rattle.picture.proofs.Records.{shared}
-use Rattle.matching.specs.Met.{meets}
+use Rattle.matching.specs.Agreed.{agrees}
 use native.Mathlib.Omega.{arith}
 use borrow.Author.Tests.{eq-eqb, ne-eqb}
 use borrow.Author.Needs.{needs}
-use Rattle.matching.proofs.is_meeting.Statement.{statement}
-use Rattle.matching.proofs.is_meeting.Tie as tie
-use Rattle.matching.proofs.is_meeting.Reads as reads
-use Rattle.matching.proofs.is_meeting.Lts as lts
+use Rattle.matching.proofs.is_agreeing.Statement.{statement}
+use Rattle.matching.proofs.is_agreeing.Tie as tie
+use Rattle.matching.proofs.is_agreeing.Reads as reads
+use Rattle.matching.proofs.is_agreeing.Lts as lts
 use Rattle.tables.proofs.field_of.Reads as field-of-reads
 use Rattle.picture.proofs.word_at.Reads as word-at-reads
 
@@ -20,7 +20,7 @@ mul-if1 : tie.Need-mul-if1
 mul-if1 c = search needs
 
 returns : tie.Need-returns
-unfolding meets
+unfolding agrees
 returns c = rw (ne-eqb _ _ (rw (c .before .field-of .ensures) at (c .if1 .taken)))
 
 field-of-requires-2 : tie.Need-field-of-requires-2
@@ -33,11 +33,11 @@ word-at-requires : tie.Need-word-at-requires
 word-at-requires c κs = search needs
 
 returns-2 : tie.Need-returns-2
-unfolding meets
+unfolding agrees
 returns-2 c = let d = c .before .before in rw (eq-eqb _ _ (rw (d .before .field-of .ensures) at (d .if1 .left)), c .word-at .ensures, c .before .field-of2 .ensures)
 
-pub is-meeting-spec : {M : Type 1} → statement M
-is-meeting-spec =
+pub is-agreeing-spec : {M : Type 1} → statement M
+is-agreeing-spec =
     tie.close
     (tie.spec
     field-of-requires
