@@ -14,11 +14,11 @@ use Rattle.picture.specs.declared.Table.the-variants.{Jobs}
 use Rattle.picture.specs.declared.Area.the-variants.{Transient}
 use Rattle.picture.proofs.Records.{used-below}
 use Rattle.blocks.proofs.Starts.{starts-in}
-use Rattle.matching.specs.Match.{has-block}
+use Rattle.sound_matching.specs.Match.{has-block}
 use Rattle.picture.specs.Layout.{greatest-priority}
 use Rattle.sound.specs.Sound.{sound}
-use Rattle.facts.proofs.Sound.{Sound}
-use Rattle.facts.proofs.View.{view}
+use Rattle.sound_facts.proofs.Sound.{Sound}
+use Rattle.sound_facts.proofs.View.{view}
 
 has-block-other : (p : List ℕ) (k : ℕ) → used p Jobs k ≡ true → 0 < k → has-block p Jobs k ≡ true
 unfolding has-block

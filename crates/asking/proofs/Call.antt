@@ -7,7 +7,7 @@ use Rattle.picture.specs.Keys.{invalid-job}
 use Rattle.picture.specs.Numbers.{job-at}
 use Rattle.picture.specs.declared.Table.{Table}
 use Rattle.sound.specs.Sound.{sound}
-use Rattle.facts.proofs.Ages.{Ages, ages-still}
+use Rattle.sound_facts.proofs.Ages.{Ages, ages-still}
 use Rattle.calls.specs.Outcome.{Outcome, refuse, succeed}
 use Rattle.calls.specs.Call.{outcome}
 use Rattle.calls.proofs.Call.{of-each-way}

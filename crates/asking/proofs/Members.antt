@@ -18,7 +18,7 @@ use Rattle.calls.proofs.Found.{live-job-passes, job-that-passes-is-live, job-ch
 use Rattle.calls.specs.Registers.{D1, D2, meant}
 use Rattle.tree.specs.Under.{Under}
 use Rattle.tree.proofs.Members.{in-tree-says, in-tree-has}
-use Rattle.owners.proofs.Owners.{owners-in-order}
+use Rattle.law_owners.proofs.Owners.{owners-in-order}
 use Rattle.asking.specs.Ask.{ask}
 
 -- D2 is live, D1 is live and in the tree of D2

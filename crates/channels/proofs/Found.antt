@@ -20,13 +20,13 @@ use Rattle.blocks.specs.Header.{size, queue-length, rounded}
 use Rattle.blocks.specs.Walk.{blocks}
 use Rattle.blocks.proofs.Walk.{Good, is-good}
 use Rattle.blocks.proofs.Starts.{starts-in}
-use Rattle.matching.specs.Match.{first, has-block}
-use Rattle.matching.proofs.Counts.{Matches}
-use Rattle.matching.proofs.Matched.{Matched}
+use Rattle.sound_matching.specs.Match.{first, has-block}
+use Rattle.sound_matching.proofs.Counts.{Matches}
+use Rattle.sound_matching.proofs.Matched.{Matched}
 use Rattle.sound.specs.Sound.{sound}
-use Rattle.facts.proofs.Sound.{Sizes, Queue, Tiled, Sound}
-use Rattle.facts.proofs.View.{view}
-use Rattle.facts.proofs.Same.{within}
+use Rattle.sound_facts.proofs.Sound.{Sizes, Queue, Tiled, Sound}
+use Rattle.sound_facts.proofs.View.{view}
+use Rattle.sound_facts.proofs.Same.{within}
 use Rattle.queues.specs.Ring.{Ring}
 use Rattle.channels.specs.Effects.{queue-of}
 

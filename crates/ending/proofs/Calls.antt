@@ -11,7 +11,7 @@ use Rattle.picture.specs.Keys.{not-complete, invalid-job, bad-parameter}
 use Rattle.picture.specs.declared.Area.the-variants.{Heap, Transient}
 use Rattle.picture.specs.declared.JobFound.the-variants.{At, Dead}
 use Rattle.sound.specs.Sound.{sound}
-use Rattle.facts.proofs.View.{view}
+use Rattle.sound_facts.proofs.View.{view}
 use Rattle.calls.specs.Outcome.{refuse, succeed}
 use Rattle.calls.specs.Call.{outcome}
 use Rattle.calls.specs.Registers.{D1, D3, cleared, meant}

@@ -22,12 +22,12 @@ use Rattle.picture.proofs.Members.{Holds, Spares, holds-low, spares-size, spare
 use Rattle.blocks.specs.Header.{header-width, kind-field, holder-field, start-field, size, kind, kind-of}
 use Rattle.blocks.specs.Walk.{good, next, starts, blocks}
 use Rattle.blocks.proofs.Walk.{Good, good-is, next-good, starts-end, starts-more}
-use Rattle.matching.specs.Match.{first, area-of, has-block}
-use Rattle.matching.proofs.Counts.{Matches}
-use Rattle.matching.proofs.Matched.{Matched}
+use Rattle.sound_matching.specs.Match.{first, area-of, has-block}
+use Rattle.sound_matching.proofs.Counts.{Matches}
+use Rattle.sound_matching.proofs.Matched.{Matched}
 use Rattle.sound.specs.Sound.{sound}
-use Rattle.facts.proofs.Sound.{Sound, Entries, Jobs-fine, Channels-fine, Tiled, Fits}
-use Rattle.facts.proofs.View.{sound-again}
+use Rattle.sound_facts.proofs.Sound.{Sound, Entries, Jobs-fine, Channels-fine, Tiled, Fits}
+use Rattle.sound_facts.proofs.View.{sound-again}
 use Rattle.words.proofs.Tests.{both, false-true, lt-or-ge}
 use lib.Dec.{leb, eqb}
 use lib.Pow.{pow-pos}

@@ -10,11 +10,11 @@ use lib.ListN.{length, take, drop}
 use Rattle.picture.specs.Layout.{positions}
 use Rattle.picture.specs.Records.{number, accumulated, ready}
 use Rattle.picture.specs.declared.Table.the-variants.{Jobs}
-use Rattle.fairness.specs.Turns as law
-use Rattle.fairness.specs.Turns.{Turn, Turns}
+use Rattle.law_fairness.specs.Turns as law
+use Rattle.law_fairness.specs.Turns.{Turn, Turns}
 use Rattle.picture.specs.Layout.{greatest-priority, hold}
-use Rattle.fairness.specs.Law.{within, InEvery}
-use Rattle.fairness.proofs.Fair.{picked-among, length-row}
+use Rattle.law_fairness.specs.Law.{within, InEvery}
+use Rattle.law_fairness.proofs.Fair.{picked-among, length-row}
 use Rattle.turns.specs.Pick.{chosen-job, accumulated-after, picked, picked-number}
 use Rattle.law_picks.specs.Stretch.{Chosen, Orderly, Stands, Quiet, Stretch, over, pick, quiet, NoTurnLost}
 use Rattle.law_picks.proofs.Rule.{someone-is-chosen}

@@ -11,7 +11,7 @@ use Rattle.picture.specs.Layout.{positions}
 use Rattle.picture.specs.Records.{slot, number, priority, accumulated, ready}
 use Rattle.picture.specs.declared.Table.the-variants.{Jobs}
 use Rattle.picture.specs.Layout.{greatest-priority}
-use Rattle.fairness.specs.Law.{within, InEvery}
+use Rattle.law_fairness.specs.Law.{within, InEvery}
 use Rattle.turns.specs.Pick.{picked, picked-number}
 
 -- the rule in words, among the positions below n: the job at m is ready, no ready job has accumulated more, and one at a lower position less

@@ -12,7 +12,7 @@ use native.Mathlib.Omega.{arith}
 use borrow.Author.Tests.{le-leb, lt-leb, leb-true}
 use Rattle.words.specs.Each.{all}
 use Rattle.words.proofs.Tests.{both, false-true}
-use Rattle.areas.specs.Rules.{longest-queue}
+use Rattle.sound_areas.specs.Rules.{longest-queue}
 use Rattle.names.specs.Names.{good, number-in, byte, pipe, digit, worth, number, numbered, named}
 use Rattle.names.specs.declared.Name.the-variants.{Pipe, Foreign, Unnumbered, Bare}
 

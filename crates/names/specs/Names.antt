@@ -7,7 +7,7 @@ use lib.Dec.{leb, eqb}
 use lib.IntN.{ℤ}
 use Rattle.words.specs.Each.{all}
 use Rattle.picture.specs.Keys.{done, not-found, bad-name, bad-parameter}
-use Rattle.areas.specs.Rules.{longest-queue}
+use Rattle.sound_areas.specs.Rules.{longest-queue}
 use Rattle.calls.specs.Call.{Check}
 use Rattle.names.specs.declared.Name.{Name}
 use Rattle.names.specs.declared.Name.the-variants.{Pipe, Foreign, Unnumbered, Bare}

@@ -2,7 +2,7 @@
 ghost use mathlib.Core.Path.{_≡_};
 ghost use Prim.Native.Nat.{_≤_};
 ghost use lib.ListN.{drop};
-ghost use Rattle.areas.specs.Rules.{longest-queue as longestQueue};
+ghost use Rattle.sound_areas.specs.Rules.{longest-queue as longestQueue};
 ghost use Rattle.names.specs.Names.{key-of as keyOf, good, number-in as numberIn, byte, letter, pipe, digit, numbered, named};
 
 // PIPE_n with its n; a name that isn't PIPE; PIPE_ with no good number; bare PIPE.
@@ -113,7 +113,7 @@ pub fn read_number(name: &[u8]) -> Name
     if n < 1 {
         return Name::Unnumbered;
     }
-    if areas::LONGEST_QUEUE < n as usize {
+    if sound_areas::LONGEST_QUEUE < n as usize {
         return Name::Unnumbered;
     }
     Name::Pipe(n)

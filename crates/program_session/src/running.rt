@@ -1,7 +1,7 @@
 use crate::Progress;
 use crate::room;
 use libc::STDIN_FILENO;
-use lines::Line;
+use program_lines::Line;
 ghost use mathlib.Core.Path.{_≡_};
 ghost use Prim.Native.Nat.{_≤_};
 ghost use lib.ListN.{length};
@@ -11,20 +11,20 @@ const BAD: u32 = 0xFFFF_FFF1;
 
 // A bad line gives its key alone.
 fn write_bad(out: &mut [u8], used: usize) -> usize {
-    writing::write_answer(out, used, &[BAD])
+    program_writing::write_answer(out, used, &[BAD])
 }
 
 // A pick gives its number and its key.
 fn write_pick(p: &mut [u32], out: &mut [u8], used: usize) -> usize {
     let picked = manager::pick(p);
     let answer = [picked.number, words::bits_of(picked.key)];
-    writing::write_answer(out, used, &answer)
+    program_writing::write_answer(out, used, &answer)
 }
 
 // A tick gives its key.
 fn write_tick(p: &mut [u32], out: &mut [u8], used: usize) -> usize {
     let answer = [words::bits_of(manager::tick(p))];
-    writing::write_answer(out, used, &answer)
+    program_writing::write_answer(out, used, &answer)
 }
 
 // A trap gives its eight registers.
@@ -37,7 +37,7 @@ fn write_trap(
     used: usize,
 ) -> usize {
     manager::call(p, trap, registers, name);
-    writing::write_answer(out, used, registers)
+    program_writing::write_answer(out, used, registers)
 }
 
 // Answers a line, in the rooms that are lent for its registers and its name.
@@ -51,8 +51,8 @@ fn answer_in(
 ) -> usize
     requires { ⌜ 223 ≤ length (now name) ⌝ }
 {
-    let start = pieces::with_room(out, used);
-    match lines::read_line(line, registers, name) {
+    let start = program_pieces::with_room(out, used);
+    match program_lines::read_line(line, registers, name) {
         Line::Bad => write_bad(out, start),
         Line::Pick => write_pick(p, out, start),
         Line::Tick => write_tick(p, out, start),
@@ -81,7 +81,7 @@ fn take(p: &mut [u32], part: &[u8], progress: Progress, line: &mut [u8], out: &m
             used: end,
         };
     }
-    let whole = lines::keep(part, kept, line);
+    let whole = program_lines::keep(part, kept, line);
     let end = answer_line(p, &line[..whole], out, used);
     Progress {
         length: 0,
@@ -103,16 +103,16 @@ fn take_all(
     let mut now = progress;
     let mut start = 0;
     loop {
-        let end = lines::line_end(chunk, start);
+        let end = program_lines::line_end(chunk, start);
         if end == chunk.len() {
             break;
         }
         now = take(p, &chunk[start..end], now, line, out);
         start = end + 1;
     }
-    pieces::write_out(out, now.used);
+    program_pieces::write_out(out, now.used);
     Progress {
-        length: lines::keep(&chunk[start..], now.length, line),
+        length: program_lines::keep(&chunk[start..], now.length, line),
         used: 0,
     }
 }
@@ -126,7 +126,7 @@ fn finish(p: &mut [u32], progress: Progress, line: &[u8], out: &mut [u8])
         return;
     }
     let used = answer_line(p, &line[..kept], out, progress.used);
-    pieces::write_out(out, used);
+    program_pieces::write_out(out, used);
 }
 
 // Answers each line of standard input, in the rooms that are lent. There are more turns than any run uses up.
@@ -136,7 +136,7 @@ pub fn answer_all(p: &mut [u32], chunk: &mut [u8], line: &mut [u8], out: &mut [u
     while 0 < turns {
         let got = io::count(libc::read(STDIN_FILENO, chunk), chunk);
         progress = take_all(p, &chunk[..got], progress, line, out);
-        turns = pieces::turns_after(turns, got);
+        turns = program_pieces::turns_after(turns, got);
     }
     finish(p, progress, line, out);
 }

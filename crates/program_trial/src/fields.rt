@@ -2,7 +2,7 @@ use crate::Call;
 use crate::Count;
 use crate::Trial;
 use crate::longwords;
-use digits::Read;
+use program_digits::Read;
 ghost use Prim.Native.Nat.{_≤_};
 ghost use lib.ListN.{length};
 ghost use Rattle.trial.specs.Within.{Within, Fitting};
@@ -21,10 +21,10 @@ fn fresh_of(field: &[u8]) -> Call {
     if field.len() != 18 {
         return Call::Bad;
     }
-    let Read::Number(size) = digits::read_number(field, 2, 8) else {
+    let Read::Number(size) = program_digits::read_number(field, 2, 8) else {
         return Call::Bad;
     };
-    let Read::Number(heap) = digits::read_number(field, 10, 8) else {
+    let Read::Number(heap) = program_digits::read_number(field, 10, 8) else {
         return Call::Bad;
     };
     Call::Fresh(size, heap)
@@ -38,7 +38,7 @@ fn trap_of(trap: u32, field: &[u8]) -> Call {
     if field.len() % 2 != 0 {
         return Call::Bad;
     }
-    if digits::are_digits(field, 0, field.len()) {
+    if program_digits::are_digits(field, 0, field.len()) {
         return Call::Trap(trap);
     }
     Call::Bad
@@ -46,7 +46,7 @@ fn trap_of(trap: u32, field: &[u8]) -> Call {
 
 // What a call field asks for. A field of an error text, FE, is none of them.
 fn call_of(field: &[u8]) -> Call {
-    let Read::Number(first) = digits::read_number(field, 0, 2) else {
+    let Read::Number(first) = program_digits::read_number(field, 0, 2) else {
         return Call::Bad;
     };
     if first < 0xF0 {
@@ -76,10 +76,10 @@ fn read_name(field: &[u8], name: &mut [u8]) -> usize
     if name.len() < count {
         return 0;
     }
-    if !digits::are_digits(field, 2, 2 * count) {
+    if !program_digits::are_digits(field, 2, 2 * count) {
         return 0;
     }
-    digits::read_bytes(field, 2, count, name);
+    program_digits::read_bytes(field, 2, count, name);
     count
 }
 
@@ -87,7 +87,7 @@ fn read_name(field: &[u8], name: &mut [u8]) -> usize
 fn read_registers(field: &[u8], registers: &mut [u32]) -> Count
     ensures { λ r. ⌜ Within r (length (now (registers .entry))) ⌝ }
 {
-    if texts::is_none(field) {
+    if program_texts::is_none(field) {
         return Count::Of(0);
     }
     let count = field.len() / 8;
@@ -100,10 +100,10 @@ fn read_registers(field: &[u8], registers: &mut [u32]) -> Count
     if field.len() % 8 != 0 {
         return Count::Bad;
     }
-    if !digits::are_digits(field, 0, field.len()) {
+    if !program_digits::are_digits(field, 0, field.len()) {
         return Count::Bad;
     }
-    digits::read_words(field, 0, count, registers);
+    program_digits::read_words(field, 0, count, registers);
     Count::Of(count)
 }
 
@@ -115,7 +115,7 @@ fn times_at(field: &[u8], place: usize) -> usize {
     if field[place] != b'x' {
         return 1;
     }
-    let Read::Number(times) = digits::read_number(field, place + 1, 4) else {
+    let Read::Number(times) = program_digits::read_number(field, place + 1, 4) else {
         return 0;
     };
     if MOST_TIMES < times {
@@ -144,7 +144,7 @@ fn read_longwords(p: &mut [u32], field: &[u8]) -> Count
     let mut place = 0;
     let mut count = 0;
     while place < field.len() {
-        let Read::Number(longword) = digits::read_number(field, place, 8) else {
+        let Read::Number(longword) = program_digits::read_number(field, place, 8) else {
             return Count::Bad;
         };
         if field.len() - place < 8 {
@@ -172,7 +172,7 @@ fn read_longwords(p: &mut [u32], field: &[u8]) -> Count
 fn read_picture(p: &mut [u32], field: &[u8]) -> Count
     ensures { λ r. ⌜ Within r (length (now (p .entry))) ⌝ }
 {
-    if texts::is_none(field) {
+    if program_texts::is_none(field) {
         return Count::Of(0);
     }
     if field.len() == 0 {
@@ -191,7 +191,7 @@ fn read_rest(
 ) -> Trial
     ensures { λ r. ⌜ Fitting r characters (length (now (registers .entry))) (length (now (p .entry))) ⌝ }
 {
-    let second = texts::blank_in(rest);
+    let second = program_texts::blank_in(rest);
     if second == rest.len() {
         return Trial::Bad;
     }
@@ -212,7 +212,7 @@ pub fn read_trial(p: &mut [u32], line: &[u8], registers: &mut [u32], name: &mut 
     if LONGEST_LINE < line.len() {
         return Trial::Bad;
     }
-    let first = texts::blank_in(line);
+    let first = program_texts::blank_in(line);
     if first == line.len() {
         return Trial::Bad;
     }

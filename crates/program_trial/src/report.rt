@@ -4,28 +4,28 @@ use crate::longwords;
 // The number of a pick, as a field.
 fn write_pick(answer: Answer, out: &mut [u8], used: usize) -> usize {
     if answer.is_pick {
-        let start = writing::write_character(out, used, b' ');
-        return writing::write_number(out, start, 8, answer.number);
+        let start = program_writing::write_character(out, used, b' ');
+        return program_writing::write_number(out, start, 8, answer.number);
     }
     used
 }
 
 // The registers, as a field.
 fn write_registers(registers: &[u32], out: &mut [u8], used: usize) -> usize {
-    let start = writing::write_character(out, used, b' ');
+    let start = program_writing::write_character(out, used, b' ');
     if registers.len() == 0 {
-        return writing::write_character(out, start, b'-');
+        return program_writing::write_character(out, start, b'-');
     }
-    writing::write_words(out, start, registers)
+    program_writing::write_words(out, start, registers)
 }
 
 // One change: what stands before it, its index and what is there now.
 fn write_change(mark: u8, index: usize, longword: u32, out: &mut [u8], used: usize) -> usize {
-    let start = pieces::with_room(out, used);
-    let marked = writing::write_character(out, start, mark);
-    let indexed = writing::write_number(out, marked, 4, (index % 65536) as u32);
-    let equated = writing::write_character(out, indexed, b'=');
-    writing::write_number(out, equated, 8, longword)
+    let start = program_pieces::with_room(out, used);
+    let marked = program_writing::write_character(out, start, mark);
+    let indexed = program_writing::write_number(out, marked, 4, (index % 65536) as u32);
+    let equated = program_writing::write_character(out, indexed, b'=');
+    program_writing::write_number(out, equated, 8, longword)
 }
 
 // The longwords that changed, as a field.
@@ -44,8 +44,8 @@ fn write_changes(p: &[u32], before: &[u32], out: &mut [u8], used: usize) -> usiz
     if mark == b',' {
         return place;
     }
-    let start = writing::write_character(out, place, b' ');
-    writing::write_character(out, start, b'-')
+    let start = program_writing::write_character(out, place, b' ');
+    program_writing::write_character(out, start, b'-')
 }
 
 // Answers a trial.
@@ -57,10 +57,10 @@ pub fn write_answer(
     out: &mut [u8],
     used: usize,
 ) -> usize {
-    let start = pieces::with_room(out, used);
-    let keyed = writing::write_number(out, start, 8, answer.key);
+    let start = program_pieces::with_room(out, used);
+    let keyed = program_writing::write_number(out, start, 8, answer.key);
     let picked = write_pick(answer, out, keyed);
     let listed = write_registers(registers, out, picked);
     let changed = write_changes(p, before, out, listed);
-    writing::write_character(out, changed, b'\n')
+    program_writing::write_character(out, changed, b'\n')
 }

@@ -70,7 +70,7 @@ fn answer_in(
             out,
             used,
         ),
-        Trial::Bad => texts::write_refusal(out, used),
+        Trial::Bad => program_texts::write_refusal(out, used),
     }
 }
 
@@ -84,8 +84,8 @@ fn answer_call(line: &[u8], out: &mut [u8], used: usize) -> usize {
 
 // Answers a line: it asks for an error text or for a call.
 fn answer_line(line: &[u8], out: &mut [u8], used: usize) -> usize {
-    if texts::is_asked(line) {
-        return texts::answer_error(line, out, used);
+    if program_texts::is_asked(line) {
+        return program_texts::answer_error(line, out, used);
     }
     answer_call(line, out, used)
 }
@@ -104,7 +104,7 @@ fn take(character: u8, progress: Progress, line: &mut [u8], out: &mut [u8]) -> P
             used: end,
         };
     }
-    let next = writing::write_character(line, length, character);
+    let next = program_writing::write_character(line, length, character);
     Progress {
         length: next,
         used: used,
@@ -130,11 +130,11 @@ fn finish(progress: Progress, line: &mut [u8], out: &mut [u8])
     requires { ⌜ progress .length ≤ length (now line) ⌝ }
 {
     if progress.length == 0 {
-        pieces::write_out(out, progress.used);
+        program_pieces::write_out(out, progress.used);
         return;
     }
     let last = take(b'\n', progress, line, out);
-    pieces::write_out(out, last.used);
+    program_pieces::write_out(out, last.used);
 }
 
 // Answers each line of standard input, in the rooms that are lent. There are more turns than any run uses up.
@@ -144,7 +144,7 @@ pub fn answer_all(chunk: &mut [u8], line: &mut [u8], out: &mut [u8]) {
     while 0 < turns {
         let got = io::read_full(STDIN_FILENO, chunk);
         progress = take_all(&chunk[..got], progress, line, out);
-        turns = pieces::turns_after(turns, got);
+        turns = program_pieces::turns_after(turns, got);
     }
     finish(progress, line, out);
 }

@@ -4,7 +4,7 @@ use mathlib.Core.Bool.{Bool, cond}
 use mathlib.Core.List.{List, [], _∷_, _++_}
 use lib.Dec.{leb, ltb}
 use Rattle.blocks.specs.Header.{queue-length, queue-oldest, queue-count, with-queue-oldest, with-queue-count}
-use Rattle.areas.specs.Rules.{longest-queue}
+use Rattle.sound_areas.specs.Rules.{longest-queue}
 use Rattle.queues.specs.Bytes.{byte-at, with-byte-at}
 
 -- what soundness says of a ring

@@ -9,8 +9,8 @@ use Rattle.picture.specs.Layout.{heap-base, greatest-size, from, upto}
 use Rattle.picture.specs.declared.Area.{Area}
 use Rattle.picture.specs.declared.Area.the-variants.{Heap, Transient}
 use Rattle.sound.specs.Sound.{sound}
-use Rattle.facts.proofs.Sound.{Sizes, Sound}
-use Rattle.facts.proofs.View.{view}
+use Rattle.sound_facts.proofs.Sound.{Sizes, Sound}
+use Rattle.sound_facts.proofs.View.{view}
 
 -- an area of a picture: where it starts, where it stops, and that it lies behind the tables and in the picture
 pub record Lies (p : List ℕ) (a : Area) : Type 0 where

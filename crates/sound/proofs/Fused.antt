@@ -17,11 +17,11 @@ use Rattle.picture.specs.declared.Area.{Area}
 use Rattle.picture.specs.declared.Area.the-variants.{Heap, Transient}
 use Rattle.blocks.specs.Header.{kind, kind-of, job-kind, queue-kind, free}
 use Rattle.blocks.specs.Walk.{blocks}
-use Rattle.matching.specs.Match.{area-of, block-matched}
-use Rattle.entries.specs.Entries.{record-fine}
-use Rattle.entries.proofs.Rules.{Entry, Job, Channel, job-is, is-job, channel-is, is-channel}
-use Rattle.walks.proofs.Rules.{Block}
-use Rattle.areas.specs.Rules.{kind-fits, holder-live}
+use Rattle.sound_matching.specs.Match.{area-of, block-matched}
+use Rattle.sound_entries.specs.Entries.{record-fine}
+use Rattle.sound_entries.proofs.Rules.{Entry, Job, Channel, job-is, is-job, channel-is, is-channel}
+use Rattle.sound_walks.proofs.Rules.{Block}
+use Rattle.sound_areas.specs.Rules.{kind-fits, holder-live}
 use Rattle.sound.specs.Rule.{Rule}
 use Rattle.sound.specs.Sound.{sound}
 use Rattle.sound.specs.Test.{half-fine, tested}

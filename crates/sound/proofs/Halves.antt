@@ -17,18 +17,18 @@ use Rattle.picture.specs.declared.Table.the-variants.{Jobs, Channels}
 use Rattle.blocks.specs.Header.{kind, kind-of, holder}
 use Rattle.blocks.specs.Walk.{blocks}
 use Rattle.blocks.proofs.Starts.{starts-in}
-use Rattle.matching.specs.Match.{area-of, first, has-block, block-matched, entry-matched}
-use Rattle.matching.specs.Agreed.{agreed}
-use Rattle.matching.proofs.Counts.{Matches, heirs-blocks, counts-entries, entries-counts}
-use Rattle.matching.proofs.Matched.{Matched, matched}
-use Rattle.matching.proofs.Agreeing.{agreed-some, some-agreed}
-use Rattle.records.specs.Rules.{may-be-unowned, owner-live}
-use Rattle.areas.specs.Rules.{holder-live}
-use Rattle.matching.specs.declared.Walked.the-variants.{Broken, Counted}
-use Rattle.entries.specs.Entries.{record-fine, entries-walked}
-use Rattle.entries.proofs.Rules.{placed-has-block}
-use Rattle.walks.specs.Walks.{block-fine, blocks-walked}
-use Rattle.walks.proofs.Rules.{Block, block-is, is-block, fine-agreed, fine-held}
+use Rattle.sound_matching.specs.Match.{area-of, first, has-block, block-matched, entry-matched}
+use Rattle.sound_matching.specs.Agreed.{agreed}
+use Rattle.sound_matching.proofs.Counts.{Matches, heirs-blocks, counts-entries, entries-counts}
+use Rattle.sound_matching.proofs.Matched.{Matched, matched}
+use Rattle.sound_matching.proofs.Agreeing.{agreed-some, some-agreed}
+use Rattle.sound_records.specs.Rules.{may-be-unowned, owner-live}
+use Rattle.sound_areas.specs.Rules.{holder-live}
+use Rattle.sound_matching.specs.declared.Walked.the-variants.{Broken, Counted}
+use Rattle.sound_entries.specs.Entries.{record-fine, entries-walked}
+use Rattle.sound_entries.proofs.Rules.{placed-has-block}
+use Rattle.sound_walks.specs.Walks.{block-fine, blocks-walked}
+use Rattle.sound_walks.proofs.Rules.{Block, block-is, is-block, fine-agreed, fine-held}
 use Rattle.sound.specs.Test.{as-many, half-fine}
 
 module _ (p : List ℕ) (t : Table) where

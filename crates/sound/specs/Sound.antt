@@ -9,9 +9,9 @@ use Rattle.picture.specs.declared.Table.the-variants.{Jobs, Channels}
 use Rattle.picture.specs.declared.Area.{Area}
 use Rattle.picture.specs.declared.Area.the-variants.{Heap, Transient}
 use Rattle.blocks.specs.Walk.{blocks}
-use Rattle.matching.specs.Match.{block-matched, entry-matched}
-use Rattle.records.specs.Rules.{zero-base, priority-within, accumulated-within, timeout-within, ends-in-one, blank, positioned, zero-exists, tag-within, tag-once, owner-live, owner-older, zero-unowned, tag-given, wait-allowed, idle-zero}
-use Rattle.areas.specs.Rules.{length-whole, kind-known, start-zero, free-blank, queue-room, tiles, untouched, kind-fits, holder-live}
+use Rattle.sound_matching.specs.Match.{block-matched, entry-matched}
+use Rattle.sound_records.specs.Rules.{zero-base, priority-within, accumulated-within, timeout-within, ends-in-one, blank, positioned, zero-exists, tag-within, tag-once, owner-live, owner-older, zero-unowned, tag-given, wait-allowed, idle-zero}
+use Rattle.sound_areas.specs.Rules.{length-whole, kind-known, start-zero, free-blank, queue-room, tiles, untouched, kind-fits, holder-live}
 use Rattle.sound.specs.Whole.{size-stated, seven-zero, heap-stated, last-within, current-ready}
 use Rattle.sound.specs.Rule.{Rule, rules}
 

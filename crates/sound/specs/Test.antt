@@ -6,11 +6,11 @@ use lib.Dec.{eqb}
 use Rattle.picture.specs.Layout.{from, upto}
 use Rattle.picture.specs.declared.Table.{Table}
 use Rattle.picture.specs.declared.Table.the-variants.{Jobs, Channels}
-use Rattle.matching.specs.Match.{area-of}
-use Rattle.matching.specs.declared.Walked.{Walked}
-use Rattle.matching.specs.declared.Walked.the-variants.{Broken, Counted}
-use Rattle.entries.specs.Entries.{entries-walked}
-use Rattle.walks.specs.Walks.{blocks-walked}
+use Rattle.sound_matching.specs.Match.{area-of}
+use Rattle.sound_matching.specs.declared.Walked.{Walked}
+use Rattle.sound_matching.specs.declared.Walked.the-variants.{Broken, Counted}
+use Rattle.sound_entries.specs.Entries.{entries-walked}
+use Rattle.sound_walks.specs.Walks.{blocks-walked}
 use Rattle.sound.specs.Whole.{size-stated, seven-zero, heap-stated, last-within, current-ready}
 
 -- the rules of the picture as a whole

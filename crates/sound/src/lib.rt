@@ -1,12 +1,12 @@
 // The test for soundness: one pass over each table and one walk of each area.
-use matching::Walked;
 use picture::Area;
 use picture::Table;
+use sound_matching::Walked;
 use words::word;
 ghost use mathlib.Core.Path.{_≡_};
 ghost use mathlib.Core.Bool.{true};
 ghost use Prim.Native.Nat.{_<_};
-ghost use Rattle.matching.specs.Match.{area-of as areaOf};
+ghost use Rattle.sound_matching.specs.Match.{area-of as areaOf};
 ghost use Rattle.sound.specs.Whole.{size-within as sizeWithin, heap-within as heapWithin, size-stated as sizeStated, seven-zero as sevenZero, heap-stated as heapStated};
 ghost use Rattle.sound.specs.Whole.{last-within as lastWithin, current-ready as currentReady};
 ghost use Rattle.sound.specs.Sound.{sound};
@@ -99,12 +99,12 @@ pub fn is_half_fine(p: &[u32], t: Table) -> bool
     ensures { λ r. ⌜ r ≡ halfFine (now (p .entry)) t ⌝ }
 {
     let mut noted = [0u8; 64];
-    let walked = entries::walk_entries(p, t, &mut noted);
+    let walked = sound_entries::walk_entries(p, t, &mut noted);
     let Walked::Counted(n) = walked else {
         return false;
     };
     let a = area_of(t);
-    let found = walks::walk_blocks(
+    let found = sound_walks::walk_blocks(
         p,
         t,
         picture::area_from(p, a),

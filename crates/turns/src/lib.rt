@@ -11,8 +11,8 @@ use picture::PRIORITY;
 use picture::TIMEOUT;
 use picture::Table;
 use picture::slot_of;
-use tables::field_of;
-use tables::is_ready;
+use picture_tables::field_of;
+use picture_tables::is_ready;
 use words::FIRST_NEGATIVE;
 use words::put;
 use words::signed_of;
@@ -38,7 +38,7 @@ fn set_field(p: &mut [u32], k: usize, f: usize, v: u32)
     requires { ⌜ (heapBase ≤ length (now p)) × ((k < positions Jobs) × (f < width Jobs)) ⌝ }
     ensures { λ _. ⌜ now (p .exit) ≡ withField (now (p .entry)) Jobs k f v ⌝ }
 {
-    tables::put_at(p, slot_of(Table::Jobs, k) + f, v);
+    picture_tables::put_at(p, slot_of(Table::Jobs, k) + f, v);
 }
 
 // The job at m, or the one at position k where that is ready and has accumulated more.

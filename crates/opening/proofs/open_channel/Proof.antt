@@ -11,7 +11,7 @@ use Rattle.picture.specs.Numbers.{job-at, free-position}
 use Rattle.picture.specs.declared.Table.the-variants.{Channels}
 use Rattle.picture.specs.declared.JobFound.the-variants.{At}
 use Rattle.picture.specs.declared.Area.the-variants.{Heap}
-use Rattle.areas.specs.Rules.{longest-queue}
+use Rattle.sound_areas.specs.Rules.{longest-queue}
 use Rattle.calls.specs.Registers.{meant}
 use Rattle.calls.proofs.Outcome.{meets-refuse}
 use Rattle.rooms.proofs.Room.{placed-there}

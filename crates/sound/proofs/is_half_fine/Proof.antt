@@ -6,11 +6,11 @@ use Rattle.sound.proofs.is_half_fine.Statement.{statement}
 use Rattle.sound.proofs.is_half_fine.Tie as tie
 use Rattle.sound.proofs.is_half_fine.Reads as reads
 use Rattle.sound.proofs.is_half_fine.Lts as lts
-use Rattle.entries.proofs.walk_entries.Reads as walk-entries-reads
+use Rattle.sound_entries.proofs.walk_entries.Reads as walk-entries-reads
 use Rattle.picture.proofs.area_from.Reads as area-from-reads
 use Rattle.picture.proofs.area_upto.Reads as area-upto-reads
 use Rattle.sound.proofs.area_of.Reads as area-of-reads
-use Rattle.walks.proofs.walk_blocks.Reads as walk-blocks-reads
+use Rattle.sound_walks.proofs.walk_blocks.Reads as walk-blocks-reads
 
 walk-entries-requires : tie.Need-walk-entries-requires
 walk-entries-requires c κs = tables-within _ (c .before .before .pre)

@@ -4,7 +4,7 @@ use Rattle.turns.proofs.set_field.Tie as tie
 use Rattle.turns.proofs.set_field.Reads as reads
 use Rattle.turns.proofs.set_field.Lts as lts
 use Rattle.picture.proofs.slot_of.Reads as slot-of-reads
-use Rattle.tables.proofs.put_at.Reads as put-at-reads
+use Rattle.picture_tables.proofs.put_at.Reads as put-at-reads
 
 slot-of-requires : tie.Need-slot-of-requires
 slot-of-requires c κs = search needs

@@ -4,7 +4,7 @@ use native.Mathlib.Omega.{arith}
 use Prim.Native.Nat.{_≤_}
 use lib.ListN.{length}
 use lib.Seq.{length-take-le}
-use Rattle.lines.proofs.Meaning.{name-short}
+use Rattle.program_lines.proofs.Meaning.{name-short}
 use borrow.Author.Needs.{needs}
 use Rattle.program_session.proofs.running.answer_in.Statement.{statement}
 use Rattle.program_session.proofs.running.answer_in.Tie as tie

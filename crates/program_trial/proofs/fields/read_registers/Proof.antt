@@ -2,7 +2,7 @@
 use mathlib.Core.Path.{sym, _∙_}
 use native.Mathlib.Omega.{arith}
 use borrow.Author.Tests.{not-false}
-use Rattle.digits.proofs.Reader.{digits-part}
+use Rattle.program_digits.proofs.Reader.{digits-part}
 use borrow.Author.Needs.{needs}
 use Rattle.program_trial.proofs.fields.read_registers.Statement.{statement}
 use Rattle.program_trial.proofs.fields.read_registers.Tie as tie

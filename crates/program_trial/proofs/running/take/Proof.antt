@@ -1,5 +1,5 @@
 -- `program_trial::running::take` meets its contract: the line's length stays within its room. Assumes nothing.
-use Rattle.writing.proofs.Writer.{past-inside}
+use Rattle.program_writing.proofs.Writer.{past-inside}
 use Rattle.program_trial.proofs.Parts.{counted}
 use borrow.Author.Needs.{needs}
 use Rattle.program_trial.proofs.running.take.Statement.{statement}

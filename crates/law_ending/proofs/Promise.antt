@@ -1,0 +1,216 @@
+-- What ending a tree promises holds of every sound picture.
+use Prim.Native.Nat.{ℕ, zero, suc, _+_, _-_, _*_, _/_, _%_, _≤_, _<_}
+use mathlib.Core.Path.{_≡_, refl, sym, ap, _∙_, subst}
+use mathlib.Core.Bool.{Bool, true, false, _&&_, _||_, not, cond}
+use mathlib.Core.Logic.{⊎-elim, _⊎_, inl, inr}
+use mathlib.Core.List.{List}
+use lib.Dec.{eqb}
+use native.Mathlib.Omega.{arith}
+use borrow.Author.Tests.{eq-eqb, ne-eqb, eqb-true, le-leb, not-true}
+use Rattle.words.specs.Words.{word}
+use Rattle.words.specs.Bits.{bit}
+use Rattle.words.specs.Each.{In}
+use Rattle.words.proofs.Tests.{both, false-true, lt-or-ge}
+use Rattle.picture.specs.Layout.{nobody, positions, width, heap-base, from, upto, size-word, heap-word}
+use Rattle.picture.specs.Records.{field, number, owner, base, timeout, waited-for, delivered, used, owner-field, timeout-field, wait-field, key-field}
+use Rattle.picture.specs.Numbers.{position, live}
+use Rattle.picture.specs.declared.Table.{Table}
+use Rattle.picture.specs.declared.Table.the-variants.{Jobs, Channels}
+use Rattle.picture.specs.declared.Area.{Area}
+use Rattle.picture.specs.declared.Area.the-variants.{Heap, Transient}
+use Rattle.picture.proofs.Records.{used-below}
+use Rattle.picture.proofs.Numbers.{live-is, is-live}
+use Rattle.picture.proofs.Members.{spares-size, spares-heap}
+use Rattle.blocks.specs.Header.{holder-field, size, kind, free, holder, job-kind}
+use Rattle.blocks.specs.Walk.{starts, blocks}
+use Rattle.blocks.proofs.Starts.{starts-in}
+use Rattle.headers.specs.Area.{free-bytes}
+use Rattle.headers.proofs.Header.{same-or-not}
+use Rattle.headers.proofs.Row.{block-of}
+use Rattle.sound_matching.specs.Match.{has-block}
+use Rattle.sound.specs.Sound.{sound}
+use Rattle.sound_facts.proofs.Sound.{Sound}
+use Rattle.sound_facts.proofs.View.{view}
+use Rattle.freeing.specs.Sweep.{named, goes}
+use Rattle.freeing.proofs.Swept.{given-bytes}
+use Rattle.tree.specs.Tree.{tree}
+use Rattle.tree.specs.Under.{Under}
+use Rattle.masks.proofs.Masks.{mask-bit}
+use Rattle.tree.proofs.Owners.{Owners}
+use Rattle.law_owners.proofs.Owners.{owners-of}
+use Rattle.tree.proofs.Members.{tree-says, tree-has, tree-unowned}
+use Rattle.emptying.specs.Taken.{waits, channel-goes, channels-of}
+use Rattle.ending.specs.Ended.{no-block, ended}
+use Rattle.law_ending.specs.Promise.{Member, Woken, Leaves, Takes}
+use Rattle.law_ending.proofs.Taken.{going, Taken}
+use Rattle.law_ending.proofs.Areas.{Kept, extra}
+use Rattle.law_ending.proofs.Owned.{named-is, is-named, not-named, otherwise, owner-outside, a-member-is-named, a-live-number-named-is-a-member}
+use Rattle.law_ending.proofs.Sound.{not-going, ended-tables, ended-area}
+
+module _ (p : List ℕ) (S : Sound p) (t key : ℕ) (top : used p Jobs t ≡ true) (other : t ≡ 0 → ⊥) where
+  O : Owners p
+  O = owners-of p (S .jobs)
+
+  T : Taken p (ended p t key) (tree p t) (channels-of p (tree p t)) key
+  T = ended-tables p S t key top other
+
+  K : (r : Area) → Kept p (ended p t key) (from p r) (upto p r) (tree p t) (extra (base p Jobs t / 4) r)
+  K = ended-area p S t key top other
+
+  -- the mask is the tree in words
+  outside : (k : ℕ) → used p Jobs k ≡ true → (Under p t k → ⊥) → bit (tree p t) k ≡ false
+  outside k u n = otherwise (bit (tree p t) k) (λ b. n (tree-says p O t k (used-below p Jobs k u) b .1))
+
+  member-named : (n : ℕ) → Member p t n → named (tree p t) n ≡ true
+  member-named = a-member-is-named p S t
+
+  named-member : (n : ℕ) → live p Jobs n ≡ true → named (tree p t) n ≡ true → Member p t n
+  named-member = a-live-number-named-is-a-member p S t
+
+  -- a channel's bit
+  channel-bit : (k : ℕ) → used p Channels k ≡ true → bit (channels-of p (tree p t)) k ≡ named (tree p t) (owner p Channels k)
+  unfolding channels-of channel-goes
+  channel-bit k u = mask-bit (channel-goes p (tree p t)) (positions Channels) k (used-below p Channels k u) ∙ rw u
+
+  channel-owner : (k : ℕ) → used p Channels k ≡ true → live p Jobs (owner p Channels k) ≡ true
+  channel-owner k u = ⊎-elim (λ e. absurd (false-true (e .0))) (λ l. l) (S .channels .entries .owned k u)
+
+  channel-outside : (k : ℕ) → used p Channels k ≡ true → (Member p t (owner p Channels k) → ⊥) → bit (channels-of p (tree p t)) k ≡ false
+  channel-outside k u n = channel-bit k u ∙ otherwise (named (tree p t) (owner p Channels k)) (λ h. n (named-member (owner p Channels k) (channel-owner k u) h))
+
+  -- who waits for a member
+  no-zero : Member p t 0 → ⊥
+  no-zero M = false-true (sym (tree-unowned p O t 0 (omega arith) (S .jobs .zero-unowned) (λ e. other (sym e))) ∙ named-is (tree p t) 0 (member-named 0 M) .1)
+
+  waits-is : (k : ℕ) → used p Jobs k ≡ true → bit (tree p t) k ≡ false → Member p t (waited-for p k) → waits p (tree p t) k ≡ true
+  unfolding waits
+  waits-is k u b M = rw (u, b, ne-eqb (waited-for p k) 0 (λ z. no-zero (subst (Member p t) z M)), member-named (waited-for p k) M)
+
+  waited-parts : (k : ℕ) → waits p (tree p t) k ≡ true → (eqb (waited-for p k) 0 ≡ false) × (named (tree p t) (waited-for p k) ≡ true)
+  unfolding waits
+  waited-parts k h =
+      let x = both (used p Jobs k) (not (bit (tree p t) k) && (not (eqb (waited-for p k) 0) && named (tree p t) (waited-for p k))) h in
+      let y = both (not (bit (tree p t) k)) (not (eqb (waited-for p k) 0) && named (tree p t) (waited-for p k)) (x .1) in
+      let z = both (not (eqb (waited-for p k) 0)) (named (tree p t) (waited-for p k)) (y .1) in
+      (not-true _ (z .0), z .1)
+
+  waits-not : (k : ℕ) → used p Jobs k ≡ true → (Member p t (waited-for p k) → ⊥) → waits p (tree p t) k ≡ false
+  waits-not k u n = otherwise (waits p (tree p t) k) (λ h. n (by h))
+    where
+      alive : (eqb (waited-for p k) 0 ≡ false) → live p Jobs (waited-for p k) ≡ true
+      alive z = ⊎-elim (λ (e : waited-for p k ≡ 0). absurd (false-true (sym z ∙ eq-eqb (waited-for p k) 0 e))) (λ W. W .alive) (S .jobs .waits k (used-below p Jobs k u))
+
+      by : waits p (tree p t) k ≡ true → Member p t (waited-for p k)
+      by h = let w = waited-parts k h in named-member (waited-for p k) (alive (w .0)) (w .1)
+
+  -- a block in use of p is owned by a live job, or is a job block of nobody's
+  holder-member : (r : Area) (i : ℕ) → In i (blocks p r) → free p i ≡ false → named (tree p t) (holder p i) ≡ true → Member p t (holder p i)
+  holder-member r i m u h = ⊎-elim
+      (λ (e : kind p i ≡ 0). absurd (false-true (sym u ∙ eq-eqb (kind p i) 0 e)))
+      (λ x. ⊎-elim (λ e. absurd (past (holder p i) (e .1) (named-is (tree p t) (holder p i) h .0))) (λ l. named-member (holder p i) l h) x)
+      (S .tiled r .held i m)
+    where
+      past : (x : ℕ) → x ≡ nobody → position x < positions Jobs → ⊥
+      past x e l = let z : position nobody < positions Jobs = subst (λ (y : ℕ). position y < positions Jobs) e l in omega arith
+
+  top-has-block : has-block p Jobs t ≡ true
+  unfolding has-block
+  top-has-block = rw (le-leb 1 t (omega arith), top)
+
+  spared : (r : Area) (i : ℕ) → In i (blocks p r) → free p i ≡ false → (Member p t (holder p i) → ⊥) → (base p Jobs t ≡ 4 * i → ⊥) → goes p (tree p t) (extra (base p Jobs t / 4) r) i ≡ false
+  unfolding goes
+  spared r i m u n b = rw (u, ne-eqb i (extra (base p Jobs t / 4) r) (not-extra r m), otherwise (named (tree p t) (holder p i)) (λ h. n (holder-member r i m u h)))
+    where
+      not-extra : (r : Area) → In i (blocks p r) → i ≡ extra (base p Jobs t / 4) r → ⊥
+      not-extra Heap m e = let w = starts-in p (from p Heap) (upto p Heap) i m .0 in omega arith
+      not-extra Transient m e =
+          let h = S .matched Jobs .home t (used-below p Jobs t top) top-has-block in
+          let z = h .1 .1 .place in
+          b (omega arith)
+
+  same-from : (r : Area) → from (ended p t key) r ≡ from p r
+  same-from Heap = refl
+  same-from Transient = rw (T .head heap-word (omega arith) (λ z. omega arith) (λ t. spares-heap t))
+
+  same-upto : (r : Area) → upto (ended p t key) r ≡ upto p r
+  same-upto Heap = rw (T .head heap-word (omega arith) (λ z. omega arith) (λ t. spares-heap t))
+  same-upto Transient = T .head size-word (omega arith) (λ z. omega arith) (λ t. spares-size t)
+
+  -- a field of a job outside the tree that waits for none of it
+  job-field : (k f : ℕ) → used p Jobs k ≡ true → bit (tree p t) k ≡ false → waits p (tree p t) k ≡ false → f < width Jobs → field (ended p t key) Jobs k f ≡ field p Jobs k f
+  job-field k f u b w h =
+      let l = used-below p Jobs k u in
+      ⊎-elim
+      (λ (e : f ≡ timeout-field). subst (λ (g : ℕ). field (ended p t key) Jobs k g ≡ field p Jobs k g) (sym e) (T .frames k l b ∙ rw w))
+      (λ (n₅ : f ≡ timeout-field → ⊥). ⊎-elim
+      (λ (e : f ≡ wait-field). subst (λ (g : ℕ). field (ended p t key) Jobs k g ≡ field p Jobs k g) (sym e) (T .wait k l b ∙ rw w))
+      (λ (n₆ : f ≡ wait-field → ⊥). ⊎-elim
+      (λ (e : f ≡ key-field). subst (λ (g : ℕ). field (ended p t key) Jobs k g ≡ field p Jobs k g) (sym e) (T .gets k l b ∙ rw w))
+      (λ (n₇ : f ≡ key-field → ⊥). T .same-job k f l h n₅ n₆ n₇ b)
+      (same-or-not f key-field))
+      (same-or-not f wait-field))
+      (same-or-not f timeout-field)
+
+  top-goes : (i : ℕ) → free p i ≡ false → base p Jobs t ≡ 4 * i → goes p (tree p t) (base p Jobs t / 4) i ≡ true
+  unfolding goes
+  top-goes i u e = let z : i ≡ base p Jobs t / 4 = omega arith in rw (u, eq-eqb i (base p Jobs t / 4) z)
+
+  no-entry : (s : Table) (k : ℕ) → used (ended p t key) s k ≡ true → Member p t (owner (ended p t key) s k) → ⊥
+  no-entry s k u M =
+      let b : bit (going (tree p t) (channels-of p (tree p t)) s) k ≡ false = otherwise _ (λ h. false-true (sym (T .dies s k h) ∙ u)) in
+      let v : used p s k ≡ true = sym (T .stays s k b) ∙ u in
+      let N : Member p t (owner p s k) = subst (Member p t) (T .same s k owner-field (used-below p s k v) (omega arith) b) M in
+      false-true (sym (owner-outside p S t s k v b (N .lives)) ∙ member-named (owner p s k) N)
+
+  leaves : Leaves p (ended p t key) t key
+  leaves = record {
+    jobs-stay = λ k u n. T .stays Jobs k (outside k u n) ∙ u;
+    channels-stay = λ k u n. T .stays Channels k (channel-outside k u n) ∙ u;
+    jobs = λ k f u n l n₅ n₆ n₇. T .same-job k f (used-below p Jobs k u) l n₅ n₆ n₇ (outside k u n);
+    channels = λ k f u n l. T .same-channel k f (used-below p Channels k u) l (channel-outside k u n);
+    waiters = λ k u n M.
+        let b = outside k u n in
+        let w = waits-is k u b M in
+        let l = used-below p Jobs k u in
+        record { frames = T .frames k l b ∙ rw w; wait = T .wait k l b ∙ rw w; gets = T .gets k l b ∙ rw w };
+    others = λ k f u n N h. job-field k f u (outside k u n) (waits-not k u N) h;
+    blocks-stay = λ r i m u n b. rw (same-from r, same-upto r) (K r .stays i m u (spared r i m u n b));
+    block-longwords = λ r i m u n b. K r .keeps i m u (spared r i m u n b);
+    rooms = λ r i m. K r .rooms i m;
+  }
+
+  takes : Takes p (ended p t key) t
+  takes = record {
+    members = λ k u w. T .dies Jobs k (tree-has p O t k u w);
+    records = λ k f u w h. T .blank Jobs k f (used-below p Jobs k u) h (tree-has p O t k u w);
+    entries = no-entry;
+    owned-blocks = λ r i m u M.
+        let o = old r i m u in
+        let e = held r i m u in
+        false-true (sym (not-going p (tree p t) (extra (base p Jobs t / 4) r) i (o .1 .0) (o .1 .1)) ∙ member-named (holder p i) (subst (Member p t) e M));
+    top = λ i m u e. let o = old Transient i m u in false-true (sym (o .1 .1) ∙ top-goes i (o .1 .0) e);
+    current = T .current;
+  }
+    where
+      old : (r : Area) (i : ℕ) → In i (blocks (ended p t key) r) → free (ended p t key) i ≡ false → In i (starts p (from p r) (upto p r)) × ((free p i ≡ false) × (goes p (tree p t) (extra (base p Jobs t / 4) r) i ≡ false))
+      old r i m u = K r .only i (rw (same-from r, same-upto r) at m) u
+
+      held : (r : Area) (i : ℕ) → In i (blocks (ended p t key) r) → free (ended p t key) i ≡ false → holder (ended p t key) i ≡ holder p i
+      held r i m u =
+          let o = old r i m u in
+          let B = block-of p (from p r) (upto p r) (S .tiled r .whole) i (o .0) in
+          let l = B .least in
+          K r .keeps i (o .0) (o .1 .0) (o .1 .1) (i + holder-field) (omega arith) (omega arith)
+
+-- every entry and block whose owner is outside the tree is, longword for longword, what it was
+pub ending-leaves-others : (p : List ℕ) (t key : ℕ) → sound p ≡ true → used p Jobs t ≡ true → (t ≡ 0 → ⊥) → Leaves p (ended p t key) t key
+ending-leaves-others p t key s u n = leaves p (view p s) t key u n
+
+-- nothing owned by the tree is left, and the current job is nobody
+pub ending-takes-the-tree : (p : List ℕ) (t key : ℕ) → sound p ≡ true → used p Jobs t ≡ true → (t ≡ 0 → ⊥) → Takes p (ended p t key) t
+ending-takes-the-tree p t key s u n = takes p (view p s) t key u n
+
+-- the bytes of the blocks that go are free, area by area
+pub ending-gives-bytes-back : (p : List ℕ) (t key : ℕ) → sound p ≡ true → used p Jobs t ≡ true → (t ≡ 0 → ⊥) → (r : Area)
+    → free-bytes (ended p t key) (from p r) (upto p r) ≡ free-bytes p (from p r) (upto p r) + given-bytes p (from p r) (upto p r) (tree p t) (extra (base p Jobs t / 4) r)
+ending-gives-bytes-back p t key s u n r = ended-area p (view p s) t key u n r .more-free

@@ -1,0 +1,58 @@
+-- What the calls on memory say of room: -3 exactly when the heap has none, and $6 the longest that the transient area has.
+use Prim.Native.Nat.{ℕ, _-_, _≤_, _<_}
+use mathlib.Core.Path.{_≡_, refl, ap}
+use mathlib.Core.Bool.{Bool, true}
+use mathlib.Core.Logic.{⊎-elim, _⊎_, inl, inr}
+use mathlib.Core.List.{List, [], _∷_}
+use native.Mathlib.Omega.{arith}
+use lib.ListN.{length}
+use lib.Seq.{getD-set-same}
+use Rattle.words.specs.Each.{In}
+use Rattle.words.proofs.Words.{length-clear}
+use Rattle.picture.specs.Layout.{from, upto}
+use Rattle.picture.specs.Numbers.{job-at}
+use Rattle.picture.specs.Keys.{invalid-job, out-of-memory, bad-parameter}
+use Rattle.picture.specs.declared.Area.the-variants.{Heap, Transient}
+use Rattle.blocks.specs.Header.{size, free}
+use Rattle.blocks.specs.Walk.{blocks}
+use Rattle.placing.specs.Place.{longest}
+use Rattle.placing.proofs.Longest.{no-free-block-is-longer, the-longest-is-a-free-block, no-room-above-the-longest, where-there-is-no-room-the-longest-is-shorter}
+use Rattle.rooms.specs.Room.{block-length}
+use Rattle.rooms.proofs.Room.{Without}
+use Rattle.calls.specs.Call.{outcome}
+use Rattle.calls.specs.Registers.{D1, D2, cleared, meant}
+use Rattle.calls.specs.Found.{job-check}
+use Rattle.calls.proofs.Call.{keys-differ}
+use Rattle.calls.proofs.Found.{job-check-gives-no-other}
+use Rattle.law_blocks.proofs.NoRoom.{NoRoomExactly, room-is-the-last-check}
+use Rattle.memory.specs.Memory.{longest-room, length-good, taken-length, take}
+
+-- $18 answers -3 exactly when its length and its owner are good and every free block of the heap is shorter than the block asked for
+pub take-is-out-of-memory-exactly-when-the-heap-is-full : (p d : List ℕ)
+    → NoRoomExactly (outcome take p d) ((length-good (D1 d), bad-parameter) ∷ job-check (job-at p (meant p (D2 d))) ∷ []) p Heap (taken-length d)
+unfolding take
+take-is-out-of-memory-exactly-when-the-heap-is-full p d =
+    room-is-the-last-check take p d _ Heap (taken-length d) refl
+    ((λ _. keys-differ bad-parameter out-of-memory (λ e. omega arith)), (job-check-gives-no-other out-of-memory (job-at p (meant p (D2 d))) (keys-differ invalid-job out-of-memory (λ e. omega arith)), tt))
+
+-- what $6 answers is the room of a free block, and no free block has more
+module _ (p d : List ℕ) (eight : 1 < length d) where
+  answered : D1 (outcome longest-room p d .registers) ≡ longest p (from p Transient) (upto p Transient) - 16
+  unfolding longest-room outcome
+  answered = getD-set-same (cleared d) 1 (longest p (from p Transient) (upto p Transient) - 16) 0 (rw (length-clear 7 d 1) eight)
+
+  pub no-free-block-has-more-room : (i : ℕ) → In i (blocks p Transient) → free p i ≡ true → size p i - 16 ≤ D1 (outcome longest-room p d .registers)
+  no-free-block-has-more-room i m f = let l = no-free-block-is-longer p (from p Transient) (upto p Transient) i m f in rw answered (omega arith)
+
+  pub a-free-block-has-that-room : (D1 (outcome longest-room p d .registers) ≡ 0) ⊎ ((i : ℕ) × (In i (blocks p Transient) × ((free p i ≡ true) × (size p i - 16 ≡ D1 (outcome longest-room p d .registers)))))
+  a-free-block-has-that-room = rw answered (⊎-elim
+      (λ (z : longest p (from p Transient) (upto p Transient) ≡ 0). inl (omega arith))
+      (λ (w : (i : ℕ) × (In i (blocks p Transient) × ((free p i ≡ true) × (size p i ≡ longest p (from p Transient) (upto p Transient))))).
+      inr (w .0, (w .1 .0, (w .1 .1 .0, ap (λ (x : ℕ). x - 16) (w .1 .1 .1)))))
+      (the-longest-is-a-free-block p (from p Transient) (upto p Transient)))
+
+-- n bytes find no room in the transient area exactly when their block is longer than its longest free one
+pub without-room-exactly-above-the-longest : (p : List ℕ) (n : ℕ)
+    → (Without p Transient (block-length n) → longest p (from p Transient) (upto p Transient) < block-length n) × (longest p (from p Transient) (upto p Transient) < block-length n → Without p Transient (block-length n))
+without-room-exactly-above-the-longest p n =
+    (where-there-is-no-room-the-longest-is-shorter p (from p Transient) (upto p Transient) (block-length n) (omega arith), no-room-above-the-longest p (from p Transient) (upto p Transient) (block-length n))

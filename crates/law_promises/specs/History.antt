@@ -1,0 +1,56 @@
+-- Histories of calls, picks and ticks, and demand 2 over them: "From one fresh picture to the next, with our calls alone, a dead job number
+-- never names a job again, nor a dead channel number a channel."
+use Prim.Native.Nat.{ℕ, _≤_}
+use mathlib.Core.Path.{_≡_}
+use mathlib.Core.Bool.{true, false}
+use mathlib.Core.List.{List, [], _∷_, _++_}
+use Rattle.words.specs.Words.{word}
+use Rattle.picture.specs.Layout.{last-word}
+use Rattle.picture.specs.Records.{used}
+use Rattle.picture.specs.Numbers.{tag, live}
+use Rattle.picture.specs.declared.Table.{Table}
+use Rattle.picture.specs.declared.Table.the-variants.{Jobs}
+use Rattle.sound.specs.Sound.{sound}
+use Rattle.fresh.specs.Fresh.{fresh, fresh-good}
+use Rattle.ending.specs.Ended.{ended}
+use Rattle.law_ending.specs.Promise.{Leaves, Takes}
+use Rattle.manager.specs.Door.{called}
+use Rattle.manager.specs.Turn.{pick-picture, ticking}
+
+-- what can happen to a picture: a trap call with its trap number, registers and name, a pick, a tick
+pub data Event : Type 0 where
+  trap : ℕ → List ℕ → List ℕ → Event
+  pick : Event
+  tick : Event
+
+-- the picture after an event: the definitions that the contracts cite
+abbrev pub after : Event → List ℕ → List ℕ
+after (trap n d name) p = called n p d name .picture
+after pick p = pick-picture p
+after tick p = ticking p
+
+-- the picture after a history
+abbrev pub run : List Event → List ℕ → List ℕ
+run [] p = p
+run (e ∷ events) p = run events (after e p)
+
+-- over any history from a fresh picture, the picture is sound
+abbrev pub AlwaysSound : Type 0
+AlwaysSound = (n h : ℕ) → fresh-good n n h ≡ true → (events : List Event) → sound (run events (fresh n h)) ≡ true
+
+-- a number that was live and has died never names anything again
+abbrev pub DeadStaysDead : Type 0
+DeadStaysDead = (n h : ℕ) → fresh-good n n h ≡ true → (t : Table) (number : ℕ) (first then later : List Event)
+    → live (run first (fresh n h)) t number ≡ true
+    → live (run (first ++ then) (fresh n h)) t number ≡ false
+    → live (run (first ++ (then ++ later)) (fresh n h)) t number ≡ false
+
+-- tags rise: the last tag given never falls, from any sound picture
+abbrev pub LastTagNeverFalls : Type 0
+LastTagNeverFalls = (p : List ℕ) → sound p ≡ true → (t : Table) (events : List Event) → word p (last-word t) ≤ word (run events p) (last-word t)
+
+-- over any history, ending a tree takes the tree and what it owns, and leaves every block in use and every entry owned from outside as it was
+abbrev pub EndingTakesNoMore : Type 0
+EndingTakesNoMore = (n h : ℕ) → fresh-good n n h ≡ true → (events : List Event) (t key : ℕ)
+    → used (run events (fresh n h)) Jobs t ≡ true → (t ≡ 0 → ⊥)
+    → Leaves (run events (fresh n h)) (ended (run events (fresh n h)) t key) t key × Takes (run events (fresh n h)) (ended (run events (fresh n h)) t key) t

@@ -1,0 +1,40 @@
+use Rattle.sound_records.specs.Rules.{wait-allowed}
+use borrow.Author.Tests.{eq-eqb, ne-eqb}
+use borrow.Author.Needs.{needs}
+use Rattle.sound_job_records.proofs.wait_allowed.Statement.{statement}
+use Rattle.sound_job_records.proofs.wait_allowed.Tie as tie
+use Rattle.sound_job_records.proofs.wait_allowed.Reads as reads
+use Rattle.sound_job_records.proofs.wait_allowed.Lts as lts
+use Rattle.picture_tables.proofs.field_of.Reads as field-of-reads
+use Rattle.picture_tables.proofs.is_live.Reads as is-live-reads
+
+field-of-requires : tie.Need-field-of-requires
+field-of-requires c κs = search needs
+
+returns : tie.Need-returns
+unfolding wait-allowed
+returns c = rw (eq-eqb _ _ (rw (c .before .field-of .ensures) at (c .if1 .taken)))
+
+is-live-requires : tie.Need-is-live-requires
+is-live-requires c κs = search needs
+
+field-of-requires-2 : tie.Need-field-of-requires-2
+field-of-requires-2 c κs = search needs
+
+field-of-requires-3 : tie.Need-field-of-requires-3
+field-of-requires-3 c κs = search needs
+
+returns-2 : tie.Need-returns-2
+unfolding wait-allowed
+returns-2 c = let d = c .before .before .before in rw (c .field-of3 .ensures, c .before .field-of2 .ensures, c .before .before .is-live .ensures, d .before .field-of .ensures, ne-eqb _ _ (rw (d .before .field-of .ensures) at (d .if1 .left)))
+
+pub wait-allowed-spec : {M : Type 1} → statement M
+wait-allowed-spec =
+    tie.close
+    (tie.spec
+    field-of-requires
+    returns
+    is-live-requires
+    field-of-requires-2
+    field-of-requires-3
+    returns-2)
