@@ -5,7 +5,7 @@ use crate::longwords;
 use program_digits::Read;
 ghost use Prim.Native.Nat.{_≤_};
 ghost use lib.ListN.{length};
-ghost use Rattle.trial.specs.Within.{Within, Fitting};
+ghost use Rattle.program_trial.specs.Within.{Within, Fitting};
 
 // A trial has at most 300,000 characters.
 const LONGEST_LINE: usize = 300_000;
