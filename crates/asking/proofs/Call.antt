@@ -14,7 +14,7 @@ use Rattle.calls.proofs.Call.{of-each-way}
 use Rattle.calls.specs.Registers.{D1, D2, meant}
 use Rattle.picture.specs.declared.JobFound.the-variants.{At, Dead}
 use Rattle.tree.specs.Tree.{in-tree}
-use Rattle.tree.proofs.Found.{job-found}
+use Rattle.calls.proofs.Found.{job-found}
 use Rattle.asking.specs.Ask.{answered, ask}
 
 -- the ways out, as the code takes them

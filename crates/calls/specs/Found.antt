@@ -1,4 +1,6 @@
--- The checks of a number that is looked up: "job named isn't live", -2; "channel not live", -6.
+-- A number that is looked up: the check of what comes of it, "job named isn't live", -2, and "channel not live", -6; and the position
+-- that is found, of which a dead number has none.
+use Prim.Native.Nat.{ℕ}
 use mathlib.Core.Bool.{true, false}
 use Rattle.picture.specs.Keys.{done, invalid-job, channel-not-open}
 use Rattle.picture.specs.declared.JobFound.{JobFound}
@@ -11,6 +13,14 @@ abbrev pub job-check : JobFound → Check
 job-check (job.At k) = (true, done)
 job-check job.Dead = (false, invalid-job)
 
+abbrev pub job-place : JobFound → ℕ
+job-place (job.At k) = k
+job-place job.Dead = 0
+
 abbrev pub channel-check : ChannelFound → Check
 channel-check (channel.At k) = (true, done)
 channel-check channel.Dead = (false, channel-not-open)
+
+abbrev pub channel-place : ChannelFound → ℕ
+channel-place (channel.At k) = k
+channel-place channel.Dead = 0

@@ -1,7 +1,7 @@
 -- What looking up a channel's number tells, and the queue of a channel that is live.
 use Prim.Native.Nat.{ℕ, _+_, _*_, _/_, _≤_, _<_}
-use mathlib.Core.Path.{_≡_, refl, subst}
-use mathlib.Core.Bool.{Bool, true, false, _&&_, cond}
+use mathlib.Core.Path.{_≡_, subst}
+use mathlib.Core.Bool.{true, _&&_}
 use mathlib.Core.List.{List}
 use lib.ListN.{length}
 use lib.Dec.{leb}
@@ -13,7 +13,7 @@ use Rattle.picture.specs.Records.{base, used}
 use Rattle.picture.specs.Numbers.{position, live, channel-at}
 use Rattle.picture.specs.declared.Table.the-variants.{Channels}
 use Rattle.picture.specs.declared.Area.the-variants.{Heap}
-use Rattle.picture.specs.declared.ChannelFound.the-variants.{At, Dead}
+use Rattle.picture.specs.declared.ChannelFound.the-variants.{At}
 use Rattle.picture.proofs.Numbers.{Live, live-is}
 use Rattle.picture.proofs.Records.{used-below}
 use Rattle.blocks.specs.Header.{size, queue-length, rounded}
@@ -27,12 +27,9 @@ use Rattle.sound.specs.Sound.{sound}
 use Rattle.sound_facts.proofs.Sound.{Sizes, Queue, Tiled, Sound}
 use Rattle.sound_facts.proofs.View.{view}
 use Rattle.sound_facts.proofs.Same.{within}
+use Rattle.calls.proofs.Found.{Found, channel-found}
 use Rattle.queues.specs.Ring.{Ring}
 use Rattle.channels.specs.Effects.{queue-of}
-
-at-case : (t : Bool) (x k : ℕ) → cond t (At x) Dead ≡ At k → (t ≡ true) × (x ≡ k)
-at-case true x k h = (refl, cc)
-at-case false x k h = absurd (let z : _≡_ {A = ℕ} 0 1 = cc in omega arith)
 
 -- the channel that a number names
 pub record Named (p : List ℕ) (n k : ℕ) : Type 0 where
@@ -44,11 +41,8 @@ pub record Named (p : List ℕ) (n k : ℕ) : Type 0 where
 pub live-below : (p : List ℕ) (n : ℕ) → live p Channels n ≡ true → position n < positions Channels
 live-below p n h = used-below p Channels (position n) (live-is p Channels n h .used)
 
-pub channel-found : (p : List ℕ) (n k : ℕ) → channel-at p n ≡ At k → Named p n k
-unfolding channel-at
-channel-found p n k h =
-    let r = at-case (live p Channels n) (position n) k h in
-    record { finds = h; lives = r .0; place = r .1; below = subst (λ (x : ℕ). x < positions Channels) (r .1) (live-below p n (r .0)) }
+pub channel-named : (p : List ℕ) (n k : ℕ) → channel-at p n ≡ At k → Named p n k
+channel-named p n k h = let f = channel-found p n k h in record { finds = h; lives = f .lives; place = f .place; below = f .within }
 
 -- the queue at i is that of the channel at position k
 pub record Held (p : List ℕ) (k i : ℕ) : Type 0 where

@@ -16,7 +16,7 @@ use Rattle.calls.specs.Outcome.{refuse, succeed}
 use Rattle.calls.specs.Call.{outcome}
 use Rattle.calls.specs.Registers.{D1, D3, cleared, meant}
 use Rattle.tree.specs.Tree.{tree}
-use Rattle.tree.proofs.Found.{job-found}
+use Rattle.calls.proofs.Found.{job-found}
 use Rattle.ending.specs.Ended.{ended}
 use Rattle.ending.specs.Remove.{inactive, removal, remove, force-remove}
 

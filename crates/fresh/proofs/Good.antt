@@ -9,7 +9,7 @@ use borrow.Author.Tests.{leb-true, eqb-true, eq-eqb, ne-eqb}
 use Rattle.words.proofs.Tests.{both, fails-left}
 use Rattle.picture.specs.Layout.{least-size, greatest-size, heap-base}
 use Rattle.picture.specs.Keys.{done, out-of-range}
-use Rattle.sound.specs.Whole.{size-within, heap-within}
+use Rattle.sound_whole.specs.Whole.{size-within, heap-within}
 use Rattle.fresh.specs.Fresh.{fresh, fresh-good, fresh-key, fresh-picture}
 
 pub record Sizes (l n h : ℕ) : Type 0 where

@@ -10,7 +10,7 @@ use Rattle.picture.specs.Layout.{nobody, size-word, heap-word, heap-base}
 use Rattle.picture.specs.Records.{slot, owner-field, priority-field, with-members}
 use Rattle.picture.specs.Keys.{done, out-of-range}
 use Rattle.picture.specs.declared.Table.the-variants.{Jobs}
-use Rattle.sound.specs.Whole.{size-within, heap-within}
+use Rattle.sound_whole.specs.Whole.{size-within, heap-within}
 
 -- job 0 starts at this priority
 abbrev pub first-priority : ℕ

@@ -33,10 +33,10 @@ pub fn make_fresh(p: &mut [u32], n: u32, h: u32) -> i32
     if p.len() != n as usize {
         return picture::OUT_OF_RANGE;
     }
-    if !sound::size_within(n as usize) {
+    if !sound_whole::size_within(n as usize) {
         return picture::OUT_OF_RANGE;
     }
-    if !sound::heap_within(n as usize, h as usize) {
+    if !sound_whole::heap_within(n as usize, h as usize) {
         return picture::OUT_OF_RANGE;
     }
     write_fresh(p, n, h);

@@ -14,7 +14,7 @@ use Rattle.headers.specs.Header.{header}
 use Rattle.sound_matching.specs.Match.{has-block, pair, block-matched, matches, entry-matched}
 use Rattle.sound_records.specs.Rules.{zero-base, priority-within, accumulated-within, timeout-within, ends-in-one, blank, positioned, zero-exists, tag-within, tags-differ, tag-once, owner-live, owner-older, zero-unowned, tag-given, wait-allowed, idle-zero}
 use Rattle.sound_areas.specs.Rules.{length-whole, kind-known, start-zero, free-blank, queue-room, tiles, untouched, kind-fits, holder-live}
-use Rattle.sound.specs.Whole.{size-stated, seven-zero, heap-stated, last-within, current-ready}
+use Rattle.sound_whole.specs.Whole.{size-stated, seven-zero, heap-stated, last-within, current-ready}
 use Rattle.sound.specs.Sound.{sound}
 use Rattle.freeing.specs.Sweep.{goes, freed, absorbed, joined, run, swept}
 use Rattle.masks.specs.Masks.{with-bit, without, mask}

@@ -1,5 +1,4 @@
 use crate::Answer;
-use crate::longwords;
 
 // The number of a pick, as a field.
 fn write_pick(answer: Answer, out: &mut [u8], used: usize) -> usize {
@@ -34,8 +33,8 @@ fn write_changes(p: &[u32], before: &[u32], out: &mut [u8], used: usize) -> usiz
     let mut mark = b' ';
     let mut i = 0;
     while i < p.len() {
-        let longword = longwords::longword_at(p, i);
-        if longword != longwords::longword_at(before, i) {
+        let longword = words::word(p, i);
+        if longword != words::word(before, i) {
             place = write_change(mark, i, longword, out, place);
             mark = b',';
         }

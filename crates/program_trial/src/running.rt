@@ -1,12 +1,11 @@
 use crate::Answer;
-use crate::Call;
 use crate::Progress;
-use crate::Trial;
-use crate::fields;
-use crate::longwords;
 use crate::report;
 use crate::room;
+use crate::telling;
 use libc::STDIN_FILENO;
+use program_fields::Call;
+use program_fields::Trial;
 ghost use Prim.Native.Nat.{_≤_};
 ghost use lib.ListN.{length};
 
@@ -37,6 +36,15 @@ fn make_call(p: &mut [u32], call: Call, registers: &mut [u32], name: &[u8]) -> A
     }
 }
 
+// Puts the longwords of a picture into another room, as far as that goes.
+fn copy(p: &[u32], room: &mut [u32]) {
+    let mut i = 0;
+    while i < p.len() {
+        words::put(room, i, words::word(p, i));
+        i += 1;
+    }
+}
+
 // Makes a trial's call and answers it.
 fn try_call(
     p: &mut [u32],
@@ -47,7 +55,7 @@ fn try_call(
     used: usize,
 ) -> usize {
     let mut before = room::picture_room();
-    longwords::copy(p, &mut before);
+    copy(p, &mut before);
     let answer = make_call(p, call, registers, name);
     report::write_answer(p, &before, answer, registers, out, used)
 }
@@ -61,7 +69,7 @@ fn answer_in(
     out: &mut [u8],
     used: usize,
 ) -> usize {
-    match fields::read_trial(p, line, registers, name) {
+    match program_fields::read_trial(p, line, registers, name) {
         Trial::Good(call, characters, count, size) => try_call(
             &mut p[..size],
             call,
@@ -70,7 +78,7 @@ fn answer_in(
             out,
             used,
         ),
-        Trial::Bad => program_texts::write_refusal(out, used),
+        Trial::Bad => telling::write_refusal(out, used),
     }
 }
 
@@ -84,8 +92,8 @@ fn answer_call(line: &[u8], out: &mut [u8], used: usize) -> usize {
 
 // Answers a line: it asks for an error text or for a call.
 fn answer_line(line: &[u8], out: &mut [u8], used: usize) -> usize {
-    if program_texts::is_asked(line) {
-        return program_texts::answer_error(line, out, used);
+    if program_fields::is_asked(line) {
+        return telling::answer_error(line, out, used);
     }
     answer_call(line, out, used)
 }

@@ -16,7 +16,7 @@ use Rattle.placing.specs.declared.Placement.{Placement}
 use Rattle.placing.specs.declared.Placement.the-variants.{At, Nowhere}
 use Rattle.placing.proofs.Chosen.{Chosen, NoRoom, chosen-is-free-and-enough, chosen-is-not-past-the-end, none-is-chosen-where-all-are-shorter, all-are-shorter-where-none-is-chosen}
 use Rattle.placing.proofs.Answer.{answer-at}
-use Rattle.rooms.specs.Room.{spot, room-at, room-check}
+use Rattle.rooms.specs.Room.{spot, room-at, room-check, room-place}
 
 -- some free block of the area is long enough for n bytes
 unfoldable pub has-room : List ℕ → Area → ℕ → Bool
@@ -66,6 +66,11 @@ module _ (p : List ℕ) (a : Area) (n : ℕ) where
   pub the-check-fails-where-there-is-no-room : has-room p a n ≡ false → room-check (room-at p a n) ≡ (false, out-of-memory)
   unfolding has-room answer
   the-check-fails-where-there-is-no-room h = rw h
+
+  -- what is found is the spot
+  pub room-stands : has-room p a n ≡ true → room-place (room-at p a n) ≡ spot p a n
+  unfolding has-room answer
+  room-stands h = rw h
 
   -- what an answer of placing in the area says
   pub placed-there : (i : ℕ) → answer p (from p a) (upto p a) n ≡ At i → (has-room p a n ≡ true) × ((spot p a n ≡ i) × (i < upto p a))

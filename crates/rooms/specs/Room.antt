@@ -28,6 +28,11 @@ abbrev pub room-check : Placement → Check
 room-check (At i) = (true, done)
 room-check Nowhere = (false, out-of-memory)
 
+-- the block where room is found, of which none has none
+abbrev pub room-place : Placement → ℕ
+room-place (At i) = i
+room-place Nowhere = 0
+
 -- the byte offset of the header of the block at i
 abbrev pub header-byte : ℕ → ℕ
 header-byte i = 4 * i

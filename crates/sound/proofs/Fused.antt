@@ -26,7 +26,7 @@ use Rattle.sound.specs.Rule.{Rule}
 use Rattle.sound.specs.Sound.{sound}
 use Rattle.sound.specs.Test.{half-fine, tested}
 use Rattle.sound.proofs.Holds.{Holds, sound-holds, sound-by}
-use Rattle.sound.proofs.Whole.{Whole, whole-is, is-whole}
+use Rattle.sound_whole.proofs.Whole.{Whole, whole-is, is-whole}
 use Rattle.sound.proofs.Halves.{Half, half-is, is-half, half-by, half-blocks, half-entries, half-held, half-block}
 
 module _ (p : List ℕ) where

@@ -12,7 +12,7 @@ use Rattle.blocks.specs.Walk.{blocks}
 use Rattle.sound_matching.specs.Match.{block-matched, entry-matched}
 use Rattle.sound_records.specs.Rules.{zero-base, priority-within, accumulated-within, timeout-within, ends-in-one, blank, positioned, zero-exists, tag-within, tag-once, owner-live, owner-older, zero-unowned, tag-given, wait-allowed, idle-zero}
 use Rattle.sound_areas.specs.Rules.{length-whole, kind-known, start-zero, free-blank, queue-room, tiles, untouched, kind-fits, holder-live}
-use Rattle.sound.specs.Whole.{size-stated, seven-zero, heap-stated, last-within, current-ready}
+use Rattle.sound_whole.specs.Whole.{size-stated, seven-zero, heap-stated, last-within, current-ready}
 use Rattle.sound.specs.Rule.{Rule, rules}
 
 -- a test is one of the picture as a whole, of each record of a table, or of each block of both areas
@@ -56,7 +56,7 @@ test Rule.holder-live = each-block (λ (p : List ℕ) (a : Area) (i : ℕ). hold
 test Rule.owner-older = each-record Jobs owner-older
 test Rule.zero-unowned = each-record Jobs zero-unowned
 test (Rule.tag-given t) = each-record t (λ (p : List ℕ) (k : ℕ). tag-given p t k)
-test (Rule.last-within t) = whole (last-within t)
+test (Rule.last-within t) = whole (λ (p : List ℕ). last-within p t)
 test Rule.current-ready = whole current-ready
 test Rule.wait-allowed = each-record Jobs wait-allowed
 test Rule.idle-zero = each-record Jobs idle-zero

@@ -11,11 +11,7 @@ use Rattle.sound_matching.specs.declared.Walked.{Walked}
 use Rattle.sound_matching.specs.declared.Walked.the-variants.{Broken, Counted}
 use Rattle.sound_entries.specs.Entries.{entries-walked}
 use Rattle.sound_walks.specs.Walks.{blocks-walked}
-use Rattle.sound.specs.Whole.{size-stated, seven-zero, heap-stated, last-within, current-ready}
-
--- the rules of the picture as a whole
-unfoldable pub whole-fine : List ℕ → Bool
-whole-fine p = size-stated p && (seven-zero p && (heap-stated p && (last-within Jobs p && (last-within Channels p && current-ready p))))
+use Rattle.sound_whole.specs.Whole.{whole-fine}
 
 -- neither walk is broken, and both count as many
 abbrev pub as-many : Walked → Walked → Bool

@@ -28,7 +28,7 @@ use Rattle.sound_matching.proofs.Matched.{Matched, matched, matched-entries, ma
 use Rattle.sound_records.specs.Rules.{may-be-unowned, zero-base, priority-within, accumulated-within, timeout-within, ends-in-one, blank, positioned, zero-exists, tag-within, tags-differ, tag-once, owner-live, owner-older, zero-unowned, tag-given, wait-allowed, idle-zero}
 use Rattle.picture.specs.Layout.{greatest-timeout}
 use Rattle.sound_areas.specs.Rules.{length-whole, kind-known, start-zero, free-blank, queue-room, tiles, untouched, kind-fits, holder-live}
-use Rattle.sound.specs.Whole.{size-stated, seven-zero, heap-stated, last-within, current-ready}
+use Rattle.sound_whole.specs.Whole.{size-stated, seven-zero, heap-stated, last-within, current-ready}
 use Rattle.sound.specs.Rule.{Rule}
 use Rattle.sound.specs.Sound.{sound}
 use Rattle.sound.proofs.Holds.{Holds, sound-holds, sound-by}
@@ -41,7 +41,7 @@ has-block-used p t k h = both (leb (first t) k) (used p t k) h .1
 
 -- from a test to its fact, rule by rule
 module _ (p : List ℕ) where
-  sizes-by : size-stated p ≡ true → seven-zero p ≡ true → heap-stated p ≡ true → ((t : Table) → last-within t p ≡ true) → Sizes p
+  sizes-by : size-stated p ≡ true → seven-zero p ≡ true → heap-stated p ≡ true → ((t : Table) → last-within p t ≡ true) → Sizes p
   unfolding size-stated seven-zero heap-stated last-within
   sizes-by size nought heap last =
       let a = both (eqb (word p size-word) (length p)) _ size in
@@ -365,7 +365,7 @@ module _ (p : List ℕ) (S : Sound p) where
   unfolding heap-stated
   is-heap = let z = S .sizes in rw (eq-eqb _ _ (z .heap-fours), le-leb _ _ (z .heap-least), le-leb (heap-base + word p heap-word + 4) (word p size-word) (rw (z .long) (z .heap-most)))
 
-  is-last : (t : Table) → last-within t p ≡ true
+  is-last : (t : Table) → last-within p t ≡ true
   unfolding last-within
   is-last t = le-leb _ _ (S .sizes .last t)
 

@@ -2,4 +2,3 @@
 pub mod Climb
 pub mod Owners
 pub mod Members
-pub mod Found

@@ -1,9 +1,10 @@
 use native.Mathlib.Omega.{arith}
 use mathlib.Core.Path.{_≡_, sym, _∙_}
 use borrow.Author.Tests.{not-true, not-false}
+use Rattle.picture.specs.declared.Table.the-variants.{Jobs}
 use Rattle.picture.specs.declared.JobFound.the-variants.{At, Dead}
 use Rattle.picture.specs.Numbers.{job-at}
-use Rattle.tree.proofs.Found.{Found, job-found}
+use Rattle.calls.proofs.Found.{Found, job-found}
 use Rattle.calls.specs.Registers.{D1, D2, meant}
 use Rattle.calls.proofs.Outcome.{meets-refuse, meets-succeed}
 use Rattle.asking.proofs.Bounds.{base-within, priority-within}
@@ -52,7 +53,7 @@ job-is-at : (c : tie.After-known-told2) → let s = c .before .before .before .b
 job-is-at c = let j = c .before .before .before in rw (j .before .number-meant .ensures, j .before .before .word2 .ensures) at (sym (j .job-at2 .ensures) ∙ c .before .k .given .1)
 
 found : (c : tie.After-known-told2) → let s = c .before .before .before .before .before .before .before .before .before .before .before .before .before .before .before .before .before in
-    Found (s .args .p .now) (meant (s .args .p .now) (D1 (s .args .d .now))) (c .before .k .given .0 .0)
+    Found (s .args .p .now) Jobs (meant (s .args .p .now) (D1 (s .args .d .now))) (c .before .k .given .0 .0)
 found c = let s = c .before .before .before .before .before .before .before .before .before .before .before .before .before .before .before .before .before in
     job-found (s .args .p .now) (meant (s .args .p .now) (D1 (s .args .d .now))) (c .before .k .given .0 .0) (job-is-at c)
 

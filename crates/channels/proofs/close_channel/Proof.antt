@@ -7,7 +7,7 @@ use Rattle.calls.proofs.Outcome.{meets-refuse, meets-succeed}
 use Rattle.picture.specs.Numbers.{position}
 use Rattle.calls.specs.Call.{outcome}
 use Rattle.channels.specs.Effects.{queue-of}
-use Rattle.channels.proofs.Found.{Named, channel-found, Held, live-queue}
+use Rattle.channels.proofs.Found.{Named, channel-named, Held, live-queue}
 use Rattle.channels.specs.Calls.{close-channel}
 use borrow.Author.Needs.{needs}
 use Rattle.channels.proofs.close_channel.Statement.{statement}
@@ -19,7 +19,7 @@ use Rattle.channels.proofs.remove_channel.Reads as remove-channel-reads
 
 -- the channel that A0 names
 found : (c : tie.After-known-told) → Named (c .before .before .before .before .before .before .before .before .args .p .now) (word (c .before .before .before .before .before .before .before .before .args .d .now) 4) (c .before .k .given .0 .0)
-found c = channel-found _ _ _ (sym (c .before .before .before .channel-named .ensures) ∙ c .before .k .given .1)
+found c = channel-named _ _ _ (sym (c .before .before .before .channel-named .ensures) ∙ c .before .k .given .1)
 
 channel-named-requires : tie.Need-channel-named-requires
 channel-named-requires c κs = search needs

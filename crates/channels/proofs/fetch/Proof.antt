@@ -7,7 +7,7 @@ use Rattle.calls.proofs.Outcome.{meets-refuse, meets-succeed}
 use Rattle.picture.specs.Numbers.{position}
 use Rattle.calls.specs.Call.{outcome}
 use Rattle.channels.specs.Effects.{queue-of}
-use Rattle.channels.proofs.Found.{Named, channel-found, Held, live-queue}
+use Rattle.channels.proofs.Found.{Named, channel-named, Held, live-queue}
 use Rattle.channels.specs.Calls.{fetch}
 use borrow.Author.Needs.{needs}
 use Rattle.channels.proofs.fetch.Statement.{statement}
@@ -24,7 +24,7 @@ use Rattle.words.proofs.put.Reads as put-reads
 
 -- the channel that A0 names
 found : (c : tie.After-known-told) → Named (c .before .before .before .before .before .before .before .before .args .p .now) (word (c .before .before .before .before .before .before .before .before .args .d .now) 4) (c .before .k .given .0 .0)
-found c = channel-found _ _ _ (sym (c .before .before .before .channel-named .ensures) ∙ c .before .k .given .1)
+found c = channel-named _ _ _ (sym (c .before .before .before .channel-named .ensures) ∙ c .before .k .given .1)
 
 -- its queue
 asked : (c : tie.After-queue-at) → c .queue-at .result ≡ queue-of (c .before .before .before .before .before .before .before .before .before .before .before .before .before .args .p .now) (position (word (c .before .before .before .before .before .before .before .before .before .before .before .before .before .args .d .now) 4))

@@ -1,5 +1,5 @@
 use mathlib.Core.Path.{sym, _∙_}
-use Rattle.rooms.proofs.Found.{found-is-live, dead-is-not-live}
+use Rattle.calls.proofs.Found.{Found, job-found, job-dead}
 use Rattle.creating.proofs.Ways.{found-nobody, found-caller, found-dead}
 use borrow.Author.Needs.{needs}
 use Rattle.creating.proofs.owner_for.Statement.{statement}
@@ -26,13 +26,13 @@ enum-told-2 : tie.Need-enum-told-2
 enum-told-2 c = search needs
 
 returns-2 : tie.Need-returns-2
-returns-2 c = sym (found-dead _ _ (sym (c .before .before .before .before .is-negative .ensures) ∙ c .before .before .before .if1 .left) (dead-is-not-live _ _ (sym (c .before .before .job-at .ensures) ∙ c .enum-told2 .given .1)))
+returns-2 c = sym (found-dead _ _ (sym (c .before .before .before .before .is-negative .ensures) ∙ c .before .before .before .if1 .left) (job-dead _ _ (sym (c .before .before .job-at .ensures) ∙ c .enum-told2 .given .1)))
 
 caller-of-requires : tie.Need-caller-of-requires
 caller-of-requires c κs = search needs
 
 returns-3 : tie.Need-returns-3
-returns-3 c = rw (c .caller-of .ensures) (sym (found-caller _ _ (sym (c .before .before .before .before .before .is-negative .ensures) ∙ c .before .before .before .before .if1 .left) (found-is-live _ _ _ (sym (c .before .before .before .job-at .ensures) ∙ c .before .enum-told .given .1) .0)))
+returns-3 c = rw (c .caller-of .ensures) (sym (found-caller _ _ (sym (c .before .before .before .before .before .is-negative .ensures) ∙ c .before .before .before .before .if1 .left) (job-found _ _ _ (sym (c .before .before .before .job-at .ensures) ∙ c .before .enum-told .given .1) .lives)))
 
 pub owner-for-spec : {M : Type 1} → statement M
 owner-for-spec =

@@ -2,7 +2,7 @@ use mathlib.Core.Path.{_≡_, sym, _∙_}
 use borrow.Author.Tests.{not-true, not-false}
 use Rattle.picture.specs.declared.JobFound.the-variants.{At, Dead}
 use Rattle.picture.specs.Numbers.{job-at}
-use Rattle.tree.proofs.Found.{Found, job-found}
+use Rattle.calls.proofs.Found.{Found, job-found}
 use Rattle.calls.specs.Registers.{D1, meant}
 use Rattle.calls.proofs.Outcome.{meets-refuse, meets-succeed}
 use Rattle.ending.proofs.Calls.{areas-within, remove-no-job, remove-job-0, remove-active, remove-ends}

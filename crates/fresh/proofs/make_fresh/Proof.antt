@@ -11,8 +11,8 @@ use Rattle.fresh.proofs.make_fresh.Tie as tie
 use Rattle.fresh.proofs.make_fresh.Reads as reads
 use Rattle.fresh.proofs.make_fresh.Lts as lts
 use Rattle.fresh.proofs.write_fresh.Reads as write-fresh-reads
-use Rattle.sound.proofs.heap_within.Reads as heap-within-reads
-use Rattle.sound.proofs.size_within.Reads as size-within-reads
+use Rattle.sound_whole.proofs.heap_within.Reads as heap-within-reads
+use Rattle.sound_whole.proofs.size_within.Reads as size-within-reads
 
 returns : tie.Need-returns
 returns c = refused _ _ _ (other-length _ _ _ (c .if1 .taken))

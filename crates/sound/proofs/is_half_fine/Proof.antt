@@ -1,5 +1,5 @@
 use Rattle.sound.specs.Test.{half-fine}
-use Rattle.sound.proofs.Room.{tables-within, area-within}
+use Rattle.sound_whole.proofs.Room.{tables-within, area-within}
 use mathlib.Core.Path.{sym, _∙_}
 use borrow.Author.Needs.{needs}
 use Rattle.sound.proofs.is_half_fine.Statement.{statement}

@@ -8,7 +8,7 @@ use Rattle.sound.proofs.is_sound.Tie as tie
 use Rattle.sound.proofs.is_sound.Reads as reads
 use Rattle.sound.proofs.is_sound.Lts as lts
 use Rattle.sound.proofs.is_half_fine.Reads as is-half-fine-reads
-use Rattle.sound.proofs.is_whole_fine.Reads as is-whole-fine-reads
+use Rattle.sound_whole.proofs.is_whole_fine.Reads as is-whole-fine-reads
 
 is-whole-fine-requires : tie.Need-is-whole-fine-requires
 is-whole-fine-requires c κs = search needs

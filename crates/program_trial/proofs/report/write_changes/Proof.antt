@@ -17,11 +17,11 @@ abbrev μ-loop : tie.MeasureT-loop
 loop-holds : tie.Need-loop-holds Inv-loop μ-loop
 loop-holds c = (omega arith, refl)
 
-longword-at-requires : tie.Need-longword-at-requires Inv-loop μ-loop
-longword-at-requires c κs = search needs
+word-requires : tie.Need-word-requires Inv-loop μ-loop
+word-requires c κs = search needs
 
-longword-at-requires-2 : tie.Need-longword-at-requires-2 Inv-loop μ-loop
-longword-at-requires-2 c κs = search needs
+word-requires-2 : tie.Need-word-requires-2 Inv-loop μ-loop
+word-requires-2 c κs = search needs
 
 write-change-requires : tie.Need-write-change-requires Inv-loop μ-loop
 write-change-requires c κs = search needs
@@ -62,8 +62,8 @@ write-changes-spec =
     Inv-loop
     μ-loop
     loop-holds
-    longword-at-requires
-    longword-at-requires-2
+    word-requires
+    word-requires-2
     write-change-requires
     add-i
     loop-less

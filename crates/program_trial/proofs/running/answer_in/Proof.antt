@@ -2,7 +2,7 @@
 use native.Mathlib.Omega.{arith}
 use Prim.Native.Nat.{_≤_}
 use lib.ListN.{length}
-use Rattle.program_trial.proofs.Parts.{counted, trial-fits}
+use Rattle.program_fields.proofs.Parts.{counted, trial-fits}
 use borrow.Author.Needs.{needs}
 use Rattle.program_trial.proofs.running.answer_in.Statement.{statement}
 use Rattle.program_trial.proofs.running.answer_in.Tie as tie

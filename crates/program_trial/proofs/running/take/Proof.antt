@@ -1,6 +1,6 @@
 -- `program_trial::running::take` meets its contract: the line's length stays within its room. Assumes nothing.
 use Rattle.program_writing.proofs.Writer.{past-inside}
-use Rattle.program_trial.proofs.Parts.{counted}
+use Rattle.program_fields.proofs.Parts.{counted}
 use borrow.Author.Needs.{needs}
 use Rattle.program_trial.proofs.running.take.Statement.{statement}
 use Rattle.program_trial.proofs.running.take.Tie as tie

@@ -1,0 +1,37 @@
+// Lines of trials as they are read: a call on a picture, or a question for an error's text.
+mod asking;
+mod trials;
+
+pub use asking::is_asked;
+pub use asking::read_asked;
+pub use trials::read_trial;
+
+// A line has at most 300,000 characters.
+pub const LONGEST_LINE: usize = 300_000;
+
+// How many numbers or bytes a field holds.
+pub enum Count {
+    Of(usize),
+    Bad,
+}
+
+// What a line asks: the text of a key, with how many bytes of the system's text and of the driver's, or nothing of the kind.
+pub enum Asked {
+    Text(u32, usize, usize),
+    Bad,
+}
+
+// What a call field asks for: a trap by its number, a pick, a tick, or a fresh picture of a size and a heap.
+pub enum Call {
+    Trap(u32),
+    Pick,
+    Tick,
+    Fresh(u32, u32),
+    Bad,
+}
+
+// A trial: its call, and how many bytes of name, registers and longwords it has.
+pub enum Trial {
+    Good(Call, usize, usize, usize),
+    Bad,
+}
