@@ -4,6 +4,8 @@ use Prim.Native.Nat.{ℕ, _+_}
 use mathlib.Core.Bool.{cond}
 use mathlib.Core.List.{List, [], _∷_}
 use lib.Dec.{eqb}
+use lib.IntN.{pos}
+use Rattle.words.specs.Signed.{eqZ}
 use Rattle.picture.specs.Records.{number, owner, base, priority, timeout}
 use Rattle.picture.specs.Numbers.{tag, position, job-at}
 use Rattle.picture.specs.Keys.{invalid-job}
@@ -19,7 +21,7 @@ abbrev pub suspended : ℕ
 suspended = 4278190080
 
 unfoldable pub standing : List ℕ → ℕ → ℕ
-standing p k = cond (eqb (timeout p k) 0) 0 suspended + priority p k
+standing p k = cond (eqZ (timeout p k) (pos 0)) 0 suspended + priority p k
 
 -- "first byte of room, 0 for job 0": a header has 16 bytes
 abbrev pub header-bytes : ℕ

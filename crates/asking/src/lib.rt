@@ -55,7 +55,7 @@ fn standing_of(p: &[u32], k: usize) -> u32
     ensures { λ r. ⌜ r ≡ standing (now (p .entry)) k ⌝ }
 {
     let priority = field_of(p, Table::Jobs, k, picture::PRIORITY);
-    if field_of(p, Table::Jobs, k, picture::TIMEOUT) == 0 {
+    if picture::timeout_of(p, k) == 0 {
         return priority;
     }
     SUSPENDED + priority

@@ -5,7 +5,8 @@ use words::word;
 ghost use mathlib.Core.Path.{_≡_};
 ghost use Prim.Native.Nat.{_<_};
 ghost use Rattle.picture.specs.Layout.{positions, width};
-ghost use Rattle.picture.specs.Records.{with-field as withField};
+ghost use Rattle.picture.specs.Records.{with-field as withField, with-timeout as withTimeout};
+ghost use Rattle.picture.specs.declared.Table.the-variants.{Jobs};
 ghost use Rattle.calls.specs.Registers.{meant, caller};
 ghost use Rattle.calls.specs.Writes.{with-nobody as withNobody};
 
@@ -47,6 +48,14 @@ pub fn put_field(p: &mut [u32], t: Table, k: usize, f: usize, v: u32)
     ensures { λ _. ⌜ now (p .exit) ≡ withField (now (p .entry)) t k f v ⌝ }
 {
     words::put(p, picture::slot_of(t, k) + f, v);
+}
+
+// Stores the timeout of the job at position k.
+pub fn put_timeout(p: &mut [u32], k: usize, timeout: i32)
+    requires { ⌜ k < positions Jobs ⌝ }
+    ensures { λ _. ⌜ now (p .exit) ≡ withTimeout (now (p .entry)) k timeout ⌝ }
+{
+    put_field(p, Table::Jobs, k, picture::TIMEOUT, words::bits_of(timeout));
 }
 
 // Leaves nobody current.

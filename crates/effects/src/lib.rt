@@ -30,11 +30,11 @@ pub fn is_suspension(t: Timeout) -> bool
 }
 
 // Suspends the job at a position with a timeout: it waits for nobody, and has neither turns nor a key due.
-pub fn put_suspension(p: &mut [u32], position: usize, timeout: u32)
+pub fn put_suspension(p: &mut [u32], position: usize, timeout: i32)
     requires { ⌜ position < positions Jobs ⌝ }
     ensures { λ _. ⌜ now (p .exit) ≡ suspended (now (p .entry)) position timeout ⌝ }
 {
-    calls::put_field(p, Table::Jobs, position, picture::TIMEOUT, timeout);
+    calls::put_timeout(p, position, timeout);
     calls::put_field(p, Table::Jobs, position, picture::WAIT, 0);
     calls::put_field(p, Table::Jobs, position, picture::ACCUMULATED, 0);
     calls::put_field(p, Table::Jobs, position, picture::KEY, 0);
@@ -45,10 +45,10 @@ pub fn put_release(p: &mut [u32], k: usize)
     requires { ⌜ k < positions Jobs ⌝ }
     ensures { λ _. ⌜ now (p .exit) ≡ released (now (p .entry)) k ⌝ }
 {
-    if picture::field_of(p, Table::Jobs, k, picture::TIMEOUT) == 0 {
+    if picture::timeout_of(p, k) == 0 {
         return;
     }
-    calls::put_field(p, Table::Jobs, k, picture::TIMEOUT, 0);
+    calls::put_timeout(p, k, 0);
     calls::put_field(p, Table::Jobs, k, picture::WAIT, 0);
     calls::put_field(p, Table::Jobs, k, picture::KEY, 0);
 }
@@ -95,7 +95,11 @@ pub fn put_wait(p: &mut [u32], t: Timeout, c: usize, n: u32)
         return;
     }
     let slot = picture::FIRST_JOB + picture::JOB_WIDTH * c;
-    words::put(p, slot + picture::TIMEOUT, picture::NOBODY);
+    words::put(
+        p,
+        slot + picture::TIMEOUT,
+        words::bits_of(picture::WITHOUT_END),
+    );
     words::put(p, slot + picture::ACCUMULATED, 0);
     words::put(p, slot + picture::WAIT, n);
 }

@@ -3,6 +3,7 @@ use Prim.Native.Nat.{ℕ}
 use mathlib.Core.Bool.{Bool, _&&_, not, cond}
 use mathlib.Core.List.{List}
 use lib.Dec.{eqb}
+use lib.IntN.{pos}
 use Rattle.words.specs.Words.{clear}
 use Rattle.words.specs.Bits.{bit}
 use Rattle.picture.specs.Layout.{positions, width}
@@ -20,7 +21,7 @@ waits p m k = used p Jobs k && (not (bit m k) && (not (eqb (waited-for p k) 0) &
 
 -- "has timeout and wait 0 and D3 as key to deliver"
 unfoldable pub woken : ℕ → ℕ → List ℕ → ℕ → List ℕ
-woken m key p k = cond (waits p m k) (with-key (with-wait (with-timeout p k 0) k 0) k key) p
+woken m key p k = cond (waits p m k) (with-key (with-wait (with-timeout p k (pos 0)) k 0) k key) p
 
 -- the record of position k is zero if k is in the mask
 unfoldable pub blanked : Table → ℕ → List ℕ → ℕ → List ℕ

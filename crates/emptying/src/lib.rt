@@ -1,6 +1,7 @@
 // Taking the jobs of a tree and their channels out of the tables; a mask holds the positions of the tree.
 use calls::put_field;
 use calls::put_nobody;
+use calls::put_timeout;
 use freeing::is_named;
 use masks::is_member;
 use picture::CHANNELS;
@@ -31,7 +32,7 @@ fn wake(p: &mut [u32], mask: u64, key: u32, k: usize)
     ensures { λ _. ⌜ now (p .exit) ≡ woken mask key (now (p .entry)) k ⌝ }
 {
     if is_waiting(p, mask, k) {
-        put_field(p, Table::Jobs, k, picture::TIMEOUT, 0);
+        put_timeout(p, k, 0);
         put_field(p, Table::Jobs, k, picture::WAIT, 0);
         put_field(p, Table::Jobs, k, picture::KEY, key);
     }

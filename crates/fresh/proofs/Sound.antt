@@ -18,6 +18,7 @@ use Rattle.picture.specs.declared.Area.{Area}
 use Rattle.picture.specs.declared.Area.the-variants.{Heap, Transient}
 use Rattle.picture.proofs.Records.{used-below, used-is}
 use Rattle.picture.proofs.Numbers.{is-live}
+use Rattle.picture.proofs.Timeout.{Timely, timely-zero, timeout-zero, ready-by}
 use Rattle.picture.proofs.Members.{Holds, Spares, holds-low, spares-size, spares-current, spares-heap, spares-zero, spares-last, spares-past, spares-other, channels-apart, members-same, members-none, length-with-members, with-members-other, members-with}
 use Rattle.blocks.specs.Header.{header-width, kind-field, holder-field, start-field, size, kind, kind-of}
 use Rattle.blocks.specs.Walk.{good, next, starts, blocks}
@@ -256,7 +257,6 @@ module _ (n h : ℕ) (g : Sizes n n h) where
       (lt-or-ge 0 k)
 
   pub fresh-is-sound : sound q ≡ true
-  unfolding ready
   fresh-is-sound =
       let z = length-fresh n h in
       let o : (i : ℕ) → 0 < i → i < zero-owner → (i ≡ heap-word → ⊥) → Spares Jobs i → word q i ≡ 0 = λ i a b x y. let c = g .heap-least in at .other i (λ e. omega arith) x y (λ e. omega arith) (λ e. omega arith) (λ e. omega arith) (λ e. omega arith) in
@@ -281,7 +281,7 @@ module _ (n h : ℕ) (g : Sizes n n h) where
           zero-unowned = at .owner;
           urgent = urgent;
           gained = λ k l. rw (f k accumulated-field l (omega arith) (λ e. omega arith) (λ e. omega arith)) (omega arith);
-          frames = λ k l. inl (rw (f k timeout-field l (omega arith) (λ e. omega arith) (λ e. omega arith)) (omega arith));
+          frames = λ k l. subst Timely (sym (timeout-zero q k (f k timeout-field l (omega arith) (λ e. omega arith) (λ e. omega arith)))) timely-zero;
           older = λ k u. inl (rw (jobs-used k u) (at .owner));
           waits = λ k l. inl (f k wait-field l (omega arith) (λ e. omega arith) (λ e. omega arith));
           idle = λ k l. inl (f k accumulated-field l (omega arith) (λ e. omega arith) (λ e. omega arith));
@@ -296,4 +296,4 @@ module _ (n h : ℕ) (g : Sizes n n h) where
       current =
           let c = g .heap-least in
           let z : word q current-word ≡ 0 = at .other current-word (λ e. omega arith) (λ e. omega arith) (spares-current Jobs) (λ e. omega arith) (λ e. omega arith) (λ e. omega arith) (λ e. omega arith) in
-          rw z (is-live q Jobs 0 (record { used = zero-used; names = field-zero 0 number-field (omega arith) (omega arith) (λ e. omega arith) (λ e. omega arith) }), rw (at .priority, field-zero 0 timeout-field (omega arith) (omega arith) (λ e. omega arith) (λ e. omega arith)))
+          rw z (is-live q Jobs 0 (record { used = zero-used; names = field-zero 0 number-field (omega arith) (omega arith) (λ e. omega arith) (λ e. omega arith) }), ready-by q 0 (rw (at .priority) (omega arith)) (timeout-zero q 0 (field-zero 0 timeout-field (omega arith) (omega arith) (λ e. omega arith) (λ e. omega arith))))

@@ -9,7 +9,7 @@ use borrow.Author.Tests.{not-true}
 use Rattle.picture.specs.Records.{active}
 use Rattle.picture.specs.Numbers.{position, live}
 use Rattle.picture.specs.declared.Table.the-variants.{Jobs}
-use Rattle.timeouts.specs.Timeout.{timeout-in, longword}
+use Rattle.timeouts.specs.Timeout.{timeout-in, value}
 use Rattle.calls.specs.Outcome.{Outcome, refuse, succeed}
 use Rattle.calls.specs.Call.{outcome}
 use Rattle.calls.specs.Registers.{D2, D3, A1, caller}
@@ -26,7 +26,7 @@ module _ (P : Outcome → Type 0) (p d : List ℕ) (refused : (k : ℤ) → P (r
   abbrev Leaves : List ℕ → Type 0
   Leaves q = P (succeed (with-nobody q) (naming (job p d) (job-position p d) d))
 
-  pub suspend-ways : (Lives → suspends (timeout-in (D3 d)) && eqb (A1 d) 0 ≡ true → Leaves (suspended p (job-position p d) (longword (timeout-in (D3 d))))) → P (outcome suspend p d)
+  pub suspend-ways : (Lives → suspends (timeout-in (D3 d)) && eqb (A1 d) 0 ≡ true → Leaves (suspended p (job-position p d) (value (timeout-in (D3 d))))) → P (outcome suspend p d)
   unfolding suspend
   suspend-ways f = of-each-way suspend p d P refused (λ h. f (job-that-passes-is-live p (job p d) (h .0)) (h .1 .0))
 

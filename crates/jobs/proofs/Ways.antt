@@ -10,7 +10,7 @@ use Rattle.picture.specs.Records.{active}
 use Rattle.picture.specs.Numbers.{position, job-at}
 use Rattle.picture.specs.declared.JobFound.the-variants.{Dead}
 use Rattle.picture.specs.Layout.{greatest-priority}
-use Rattle.timeouts.specs.Timeout.{timeout-in, longword}
+use Rattle.timeouts.specs.Timeout.{timeout-in, value}
 use Rattle.timeouts.specs.declared.Timeout.{Timeout}
 use Rattle.calls.specs.Outcome.{Outcome, succeed, Meets}
 use Rattle.calls.specs.Call.{outcome}
@@ -56,9 +56,9 @@ module _ (p d : List ℕ) where
       unfolding suspend outcome
       suspend-bad h = meets-refuse _ bad-parameter p d (rw (F .finds, sym suspend-test ∙ not-true _ h))
 
-      pub suspend-done : (q e : List ℕ) → not (s && eqb a 0) ≡ false → q ≡ with-nobody (suspended p k (longword t)) → e ≡ naming m k d → Meets (outcome suspend p d) done q e
+      pub suspend-done : (q e : List ℕ) → not (s && eqb a 0) ≡ false → q ≡ with-nobody (suspended p k (value t)) → e ≡ naming m k d → Meets (outcome suspend p d) done q e
       unfolding suspend outcome
-      suspend-done q e h l g = meets-done _ (with-nobody (suspended p (job-position p d) (longword (timeout-in (D3 d))))) (naming (job p d) (job-position p d) d) q e
+      suspend-done q e h l g = meets-done _ (with-nobody (suspended p (job-position p d) (value (timeout-in (D3 d))))) (naming (job p d) (job-position p d) d) q e
           (rw (F .finds, sym suspend-test ∙ not-false _ h))
           (l ∙ rw (F .placed, times))
           (g ∙ names)

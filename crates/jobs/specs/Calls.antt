@@ -6,7 +6,7 @@ use lib.Dec.{eqb}
 use Rattle.picture.specs.Keys.{not-complete, bad-parameter}
 use Rattle.picture.specs.Records.{active}
 use Rattle.picture.specs.Numbers.{position, job-at}
-use Rattle.timeouts.specs.Timeout.{timeout-in, longword}
+use Rattle.timeouts.specs.Timeout.{timeout-in, value}
 use Rattle.calls.specs.Call.{Call}
 use Rattle.calls.specs.Found.{job-check}
 use Rattle.calls.specs.Registers.{D1, D2, D3, A1, with-D1, with-D2, with-A0, caller, meant}
@@ -38,7 +38,7 @@ suspend p d = record {
   checks =
       job-check (job-at p (job p d)) ∷
       (suspends (timeout-in (D3 d)) && eqb (A1 d) 0, bad-parameter) ∷ [];
-  picture = with-nobody (suspended p (job-position p d) (longword (timeout-in (D3 d))));
+  picture = with-nobody (suspended p (job-position p d) (value (timeout-in (D3 d))));
   registers = naming (job p d) (job-position p d) d;
 }
 

@@ -30,7 +30,7 @@ pub fn suspend(p: &mut [u32], d: &mut [u32]) -> i32
     if !(effects::is_suspension(t) & (word(d, calls::A1) == 0)) {
         return picture::BAD_PARAMETER;
     }
-    effects::put_suspension(p, k, timeouts::longword_of(t));
+    effects::put_suspension(p, k, timeouts::value_of(t));
     calls::put_nobody(p);
     effects::name_job(d, number.0, k);
     picture::DONE
@@ -69,7 +69,7 @@ pub fn activate(p: &mut [u32], d: &mut [u32]) -> i32
     if !effects::is_wait_good(t, number.0) {
         return picture::BAD_PARAMETER;
     }
-    let c = (calls::caller_of(p) % picture::TAG_WEIGHT) as usize;
+    let c = picture::position_of(calls::caller_of(p));
     effects::put_priority(p, k, priority);
     effects::put_wait(p, t, c, number.0);
     calls::put_nobody(p);

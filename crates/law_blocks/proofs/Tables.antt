@@ -1,6 +1,6 @@
 -- A picture whose longwords before the heap are the same keeps what soundness says of them.
 use Prim.Native.Nat.{ℕ, _+_, _<_}
-use mathlib.Core.Path.{_≡_, sym, _∙_}
+use mathlib.Core.Path.{_≡_, sym, _∙_, subst}
 use mathlib.Core.Bool.{Bool, true}
 use mathlib.Core.Logic.{⊎-elim, _⊎_, inl, inr}
 use mathlib.Core.List.{List}
@@ -12,6 +12,7 @@ use Rattle.picture.specs.Records.{slot, field, number, owner, base, waited-for,
 use Rattle.picture.specs.Numbers.{position, live}
 use Rattle.picture.specs.declared.Table.{Table}
 use Rattle.picture.specs.declared.Table.the-variants.{Jobs, Channels}
+use Rattle.picture.proofs.Timeout.{Timely, timeout-same, ready-same}
 use Rattle.picture.proofs.Records.{slot-within, used-below, shared}
 use Rattle.picture.proofs.Numbers.{Live, live-is}
 use Rattle.picture.proofs.Members.{holds-low, members-same}
@@ -75,9 +76,8 @@ module _ (p q : List ℕ) (s : TablesSame p q) where
       (λ k f l m u. field-same t k f l m ∙ E .unused k f l m (sym (used-same p q t (mask-same t) k) ∙ u))
       E
 
-  ready-same : (k : ℕ) → k < positions Jobs → ready q k ≡ ready p k
-  unfolding ready
-  ready-same k l = rw (field-same Jobs k priority-field l (omega arith), field-same Jobs k timeout-field l (omega arith))
+  ready-stays : (k : ℕ) → k < positions Jobs → ready q k ≡ ready p k
+  ready-stays k l = ready-same p q k (field-same Jobs k priority-field l (omega arith)) (timeout-same p q k (field-same Jobs k timeout-field l (omega arith)))
 
   pub jobs-same : Jobs-fine p → Jobs-fine q
   jobs-same J =
@@ -91,17 +91,17 @@ module _ (p q : List ℕ) (s : TablesSame p q) where
         zero-unowned = F 0 owner-field (omega arith) (omega arith) ∙ J .zero-unowned;
         urgent = λ k l. rw (F k priority-field l (omega arith)) (J .urgent k l);
         gained = λ k l. rw (F k accumulated-field l (omega arith)) (J .gained k l);
-        frames = λ k l. rw (F k timeout-field l (omega arith)) (J .frames k l);
+        frames = λ k l. subst Timely (sym (timeout-same p q k (F k timeout-field l (omega arith)))) (J .frames k l);
         older = λ k h. let l = used-below q Jobs k h in rw (F k owner-field l (omega arith), F k number-field l (omega arith)) (J .older k (u k h));
         waits = λ k l. ⊎-elim
             (λ (e : waited-for p k ≡ 0). inl (F k wait-field l (omega arith) ∙ e))
             (λ (w : Waits p k). inr (record {
               alive = rw (F k wait-field l (omega arith)) (lives-on (waited-for p k) (w .alive));
               other = λ e. w .other (sym (F k wait-field l (omega arith)) ∙ e ∙ F k number-field l (omega arith));
-              forever = F k timeout-field l (omega arith) ∙ w .forever;
+              forever = timeout-same p q k (F k timeout-field l (omega arith)) ∙ w .forever;
             }))
             (J .waits k l);
-        idle = λ k l. rw (F k accumulated-field l (omega arith), ready-same k l) (J .idle k l);
+        idle = λ k l. rw (F k accumulated-field l (omega arith), ready-stays k l) (J .idle k l);
       }
 
   pub channels-same : Channels-fine p → Channels-fine q
@@ -117,5 +117,5 @@ module _ (p q : List ℕ) (s : TablesSame p q) where
       (λ e. inl (w ∙ e))
       (λ (e : (live p Jobs (word p current-word) ≡ true) × (ready p (position (word p current-word)) ≡ true)).
       let l = used-below p Jobs (position (word p current-word)) (live-is p Jobs (word p current-word) (e .0) .used) in
-      inr (rw w (lives-on (word p current-word) (e .0), ready-same (position (word p current-word)) l ∙ e .1)))
+      inr (rw w (lives-on (word p current-word) (e .0), ready-stays (position (word p current-word)) l ∙ e .1)))
       h

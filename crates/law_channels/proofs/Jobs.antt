@@ -1,6 +1,6 @@
 -- A call that leaves the jobs' records alone keeps what soundness says of them.
 use Prim.Native.Nat.{ℕ, _+_, _%_, _≤_, _<_}
-use mathlib.Core.Path.{_≡_, refl, sym, ap, _∙_}
+use mathlib.Core.Path.{_≡_, refl, sym, ap, _∙_, subst}
 use mathlib.Core.Bool.{true, false}
 use mathlib.Core.Logic.{⊎-elim, _⊎_, inl, inr}
 use mathlib.Core.List.{List}
@@ -12,6 +12,7 @@ use Rattle.picture.specs.Records.{field, waited-for, used, ready, accumulated-f
 use Rattle.picture.specs.Numbers.{position, live}
 use Rattle.picture.specs.declared.Table.{Table}
 use Rattle.picture.specs.declared.Table.the-variants.{Jobs}
+use Rattle.picture.proofs.Timeout.{Timely, timeout-same, ready-same}
 use Rattle.picture.proofs.Records.{used-below}
 use Rattle.picture.proofs.Numbers.{Live, live-is}
 use Rattle.sound_facts.proofs.Sound.{Sizes, Waits, Entries, Jobs-fine, Current}
@@ -31,9 +32,8 @@ module _ (p q : List ℕ) (s : JobsSame p q) where
   pub jobs-age : Ages p q Jobs
   jobs-age = ages-same p q Jobs (s .last) (s .mask) (λ k l. s .fields k number-field l (omega arith))
 
-  ready-same : (k : ℕ) → k < positions Jobs → ready q k ≡ ready p k
-  unfolding ready
-  ready-same k l = rw (s .fields k priority-field l (omega arith), s .fields k timeout-field l (omega arith))
+  ready-stays : (k : ℕ) → k < positions Jobs → ready q k ≡ ready p k
+  ready-stays k l = ready-same p q k (s .fields k priority-field l (omega arith)) (timeout-same p q k (s .fields k timeout-field l (omega arith)))
 
   pub jobs-kept : Jobs-fine p → Jobs-fine q
   jobs-kept J =
@@ -51,17 +51,17 @@ module _ (p q : List ℕ) (s : JobsSame p q) where
         zero-unowned = F 0 owner-field (omega arith) (omega arith) ∙ J .zero-unowned;
         urgent = λ k l. rw (F k priority-field l (omega arith)) (J .urgent k l);
         gained = λ k l. rw (F k accumulated-field l (omega arith)) (J .gained k l);
-        frames = λ k l. rw (F k timeout-field l (omega arith)) (J .frames k l);
+        frames = λ k l. subst Timely (sym (timeout-same p q k (F k timeout-field l (omega arith)))) (J .frames k l);
         older = λ k h. let l = used-below q Jobs k h in rw (F k owner-field l (omega arith), F k number-field l (omega arith)) (J .older k (u k h));
         waits = λ k l. ⊎-elim
             (λ (e : waited-for p k ≡ 0). inl (F k wait-field l (omega arith) ∙ e))
             (λ (w : Waits p k). inr (record {
               alive = rw (F k wait-field l (omega arith)) (jobs-live (waited-for p k) (w .alive));
               other = λ e. w .other (sym (F k wait-field l (omega arith)) ∙ e ∙ F k number-field l (omega arith));
-              forever = F k timeout-field l (omega arith) ∙ w .forever;
+              forever = timeout-same p q k (F k timeout-field l (omega arith)) ∙ w .forever;
             }))
             (J .waits k l);
-        idle = λ k l. rw (F k accumulated-field l (omega arith), ready-same k l) (J .idle k l);
+        idle = λ k l. rw (F k accumulated-field l (omega arith), ready-stays k l) (J .idle k l);
       }
 
   pub current-kept : Current p → Current q
@@ -71,7 +71,7 @@ module _ (p q : List ℕ) (s : JobsSame p q) where
       (λ e. inl (w ∙ e))
       (λ (e : (live p Jobs (word p current-word) ≡ true) × (ready p (position (word p current-word)) ≡ true)).
       let l = used-below p Jobs (position (word p current-word)) (live-is p Jobs (word p current-word) (e .0) .used) in
-      inr (rw w (jobs-live (word p current-word) (e .0), ready-same (position (word p current-word)) l ∙ e .1)))
+      inr (rw w (jobs-live (word p current-word) (e .0), ready-stays (position (word p current-word)) l ∙ e .1)))
       h
 
 -- the longwords of the sizes

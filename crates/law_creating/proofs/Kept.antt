@@ -26,7 +26,8 @@ use Rattle.sound_matching.specs.Match.{first, area-of, has-block}
 use Rattle.sound_matching.proofs.Counts.{Matches}
 use Rattle.sound_matching.proofs.Matched.{Matched}
 use Rattle.headers.proofs.Header.{same-or-not}
-use Rattle.picture.specs.Layout.{greatest-priority, hold, greatest-timeout}
+use Rattle.picture.specs.Layout.{greatest-priority, hold}
+use Rattle.picture.proofs.Timeout.{Timely, timely-zero, timeout-same, timeout-zero, ready-same}
 use Rattle.picture.proofs.Members.{spares-size, spares-current, spares-heap, spares-zero}
 use Rattle.sound.specs.Sound.{sound}
 use Rattle.sound_facts.proofs.Sound.{Sizes, Waits, Owned, Entries, Jobs-fine, Channels-fine, Current, Sound}
@@ -123,8 +124,7 @@ module _ (p d : List ℕ) (h : sound p ≡ true) (c : Checked p d) where
       }
 
   ready-old : (j : ℕ) → j < positions Jobs → (j ≡ k → ⊥) → ready q j ≡ ready p j
-  unfolding ready
-  ready-old j l n = rw (old j priority-field l (omega arith) n, old j timeout-field l (omega arith) n)
+  ready-old j l n = ready-same p q j (old j priority-field l (omega arith) n) (timeout-same p q j (old j timeout-field l (omega arith) n))
 
   jobs : Jobs-fine q
   jobs =
@@ -137,7 +137,7 @@ module _ (p d : List ℕ) (h : sound p ≡ true) (c : Checked p d) where
         zero-unowned = old 0 owner-field (omega arith) (omega arith) not-zero ∙ J .zero-unowned;
         urgent = λ j l. each (λ x. priority q x ≤ greatest-priority) j (rw (zero priority-field (omega arith) (omega arith)) (omega arith)) (λ n. rw (old j priority-field l (omega arith) n) (J .urgent j l));
         gained = λ j l. each (λ x. accumulated q x ≤ hold) j (rw (zero accumulated-field (omega arith) (omega arith)) (omega arith)) (λ n. rw (old j accumulated-field l (omega arith) n) (J .gained j l));
-        frames = λ j l. each (λ x. (timeout q x ≤ greatest-timeout) ⊎ (timeout q x ≡ nobody)) j (inl (rw (zero timeout-field (omega arith) (omega arith)) (omega arith))) (λ n. rw (old j timeout-field l (omega arith) n) (J .frames j l));
+        frames = λ j l. each (λ x. Timely (timeout q x)) j (subst Timely (sym (timeout-zero q k (zero timeout-field (omega arith) (omega arith)))) timely-zero) (λ n. subst Timely (sym (timeout-same p q j (old j timeout-field l (omega arith) n))) (J .frames j l));
         older = λ j u. ⊎-elim
             (λ (e : j ≡ k). subst (λ (x : ℕ). (records.owner q Jobs x ≡ nobody) ⊎ (tag (records.owner q Jobs x) < tag (number q Jobs x))) (sym e) new-older)
             (λ (v : (j ≡ k → ⊥) × (used p Jobs j ≡ true)). let l = used-below p Jobs j (v .1) in rw (old j owner-field l (omega arith) (v .0), old j number-field l (omega arith) (v .0)) (J .older j (v .1)))
@@ -147,7 +147,7 @@ module _ (p d : List ℕ) (h : sound p ≡ true) (c : Checked p d) where
             (λ (w : Waits p j). inr (record {
               alive = rw (old j wait-field l (omega arith) n) (lives (waited-for p j) (w .alive));
               other = λ e. w .other (sym (old j wait-field l (omega arith) n) ∙ e ∙ old j number-field l (omega arith) n);
-              forever = old j timeout-field l (omega arith) n ∙ w .forever;
+              forever = timeout-same p q j (old j timeout-field l (omega arith) n) ∙ w .forever;
             }))
             (J .waits j l));
         idle = λ j l. each (λ x. (accumulated q x ≡ 0) ⊎ (ready q x ≡ true)) j (inl (zero accumulated-field (omega arith) (omega arith))) (λ n. rw (old j accumulated-field l (omega arith) n, ready-old j l n) (J .idle j l));

@@ -6,7 +6,8 @@ use mathlib.Core.List.{List, [], _∷_}
 use lib.ListN.{replicate}
 use lib.Seq.{sets}
 use Rattle.words.specs.Words.{clear}
-use Rattle.picture.specs.Layout.{nobody}
+use Rattle.words.specs.Signed.{bits}
+use Rattle.picture.specs.Layout.{nobody, without-end}
 use Rattle.picture.specs.Records.{members, with-members, used, ready}
 use Rattle.picture.specs.Numbers.{live}
 use Rattle.blocks.specs.Walk.{good, next, starts-within, starts}
@@ -30,7 +31,7 @@ tables p =
     16 (196609 ∷ 131075 ∷ 2720 ∷ []))
     24 (65538 ∷ nobody ∷ 2592 ∷ []))
     32 (131075 ∷ 65538 ∷ 2656 ∷ []))
-    40 (262148 ∷ 0 ∷ 2784 ∷ 5 ∷ 0 ∷ nobody ∷ 131075 ∷ 0 ∷ []))
+    40 (262148 ∷ 0 ∷ 2784 ∷ 5 ∷ 0 ∷ bits without-end ∷ 131075 ∷ 0 ∷ []))
     264 (65536 ∷ 131075 ∷ 1600 ∷ 1 ∷ [])
 
 heap : List ℕ → List ℕ

@@ -12,7 +12,7 @@ use Rattle.words.specs.Bits.{bit}
 use Rattle.words.specs.Each.{In}
 use Rattle.words.proofs.Tests.{both, false-true, lt-or-ge}
 use Rattle.picture.specs.Layout.{nobody, positions, width, heap-base, from, upto, size-word, heap-word}
-use Rattle.picture.specs.Records.{field, number, owner, base, timeout, waited-for, delivered, used, owner-field, timeout-field, wait-field, key-field}
+use Rattle.picture.specs.Records.{field, number, owner, base, waited-for, delivered, used, owner-field, timeout-field, wait-field, key-field}
 use Rattle.picture.specs.Numbers.{position, live}
 use Rattle.picture.specs.declared.Table.{Table}
 use Rattle.picture.specs.declared.Table.the-variants.{Jobs, Channels}
@@ -20,6 +20,7 @@ use Rattle.picture.specs.declared.Area.{Area}
 use Rattle.picture.specs.declared.Area.the-variants.{Heap, Transient}
 use Rattle.picture.proofs.Records.{used-below}
 use Rattle.picture.proofs.Numbers.{live-is, is-live}
+use Rattle.picture.proofs.Timeout.{timeout-zero}
 use Rattle.picture.proofs.Members.{spares-size, spares-heap}
 use Rattle.blocks.specs.Header.{holder-field, size, kind, free, holder, job-kind}
 use Rattle.blocks.specs.Walk.{starts, blocks}
@@ -172,7 +173,7 @@ module _ (p : List ℕ) (S : Sound p) (t key : ℕ) (top : used p Jobs t ≡ tru
         let b = outside k u n in
         let w = waits-is k u b M in
         let l = used-below p Jobs k u in
-        record { frames = T .frames k l b ∙ rw w; wait = T .wait k l b ∙ rw w; gets = T .gets k l b ∙ rw w };
+        record { frames = timeout-zero (ended p t key) k (T .frames k l b ∙ rw w); wait = T .wait k l b ∙ rw w; gets = T .gets k l b ∙ rw w };
     others = λ k f u n N h. job-field k f u (outside k u n) (waits-not k u N) h;
     blocks-stay = λ r i m u n b. rw (same-from r, same-upto r) (K r .stays i m u (spared r i m u n b));
     block-longwords = λ r i m u n b. K r .keeps i m u (spared r i m u n b);

@@ -6,6 +6,7 @@ use mathlib.Core.Logic.{⊎-elim, _⊎_, inl, inr}
 use mathlib.Core.List.{List}
 use lib.ListN.{length}
 use lib.Dec.{eqb, leb}
+use lib.IntN.{pos}
 use native.Mathlib.Omega.{arith}
 use borrow.Author.Tests.{eq-eqb, ne-eqb, eqb-true, eqb-false, leb-true}
 use Rattle.words.specs.Words.{word}
@@ -29,7 +30,8 @@ use Rattle.sound_matching.specs.Match.{first, area-of, has-block}
 use Rattle.sound_matching.proofs.Counts.{Matches}
 use Rattle.sound_matching.proofs.Matched.{Matched}
 use Rattle.sound_records.specs.Rules.{may-be-unowned}
-use Rattle.picture.specs.Layout.{greatest-priority, hold, greatest-timeout}
+use Rattle.picture.specs.Layout.{greatest-priority, hold}
+use Rattle.picture.proofs.Timeout.{Timely, timely-zero, timeout-same, timeout-zero, ready-has, ready-by}
 use Rattle.picture.proofs.Members.{spares-size, spares-heap, spares-zero, spares-last}
 use Rattle.sound.specs.Sound.{sound}
 use Rattle.sound_facts.proofs.Sound.{Sizes, Queue, Waits, Owned, Entries, Jobs-fine, Channels-fine, Fits, Tiled, Current, Sound}
@@ -190,15 +192,15 @@ module _ (p : List ℕ) (S : Sound p) (t key : ℕ) (top : used p Jobs t ≡ tru
   zero-stays = tree-unowned p (owners-of p (S .jobs)) t 0 (omega arith) (S .jobs .zero-unowned) (λ e. other (sym e))
 
   -- a job's timeout is 0 or what it was
-  timeout-is : (k : ℕ) → k < positions Jobs → (timeout q k ≡ 0) ⊎ (timeout q k ≡ timeout p k)
+  timeout-is : (k : ℕ) → k < positions Jobs → (timeout q k ≡ pos 0) ⊎ (timeout q k ≡ timeout p k)
   timeout-is k l = go (bit m k) refl
     where
-      by : (w : Bool) → timeout q k ≡ cond w 0 (timeout p k) → (timeout q k ≡ 0) ⊎ (timeout q k ≡ timeout p k)
-      by true e = inl e
-      by false e = inr e
+      by : (w : Bool) → field q Jobs k timeout-field ≡ cond w 0 (field p Jobs k timeout-field) → (timeout q k ≡ pos 0) ⊎ (timeout q k ≡ timeout p k)
+      by true e = inl (timeout-zero q k e)
+      by false e = inr (timeout-same p q k e)
 
-      go : (b : Bool) → bit m k ≡ b → (timeout q k ≡ 0) ⊎ (timeout q k ≡ timeout p k)
-      go true b = inl (T .blank Jobs k timeout-field l (omega arith) b)
+      go : (b : Bool) → bit m k ≡ b → (timeout q k ≡ pos 0) ⊎ (timeout q k ≡ timeout p k)
+      go true b = inl (timeout-zero q k (T .blank Jobs k timeout-field l (omega arith) b))
       go false b = by (waits p m k) (T .frames k l b)
 
   waits-kept : (k : ℕ) → k < positions Jobs → (waited-for q k ≡ 0) ⊎ Waits q k
@@ -210,7 +212,7 @@ module _ (p : List ℕ) (S : Sound p) (t key : ℕ) (top : used p Jobs t ≡ tru
           record {
             alive = rw e (live-stays (waited-for p k) (W .alive) (not-waiting k u b n w));
             other = λ z. W .other (sym e ∙ z ∙ T .same Jobs k number-field l (omega arith) b);
-            forever = T .frames k l b ∙ rw w (W .forever);
+            forever = timeout-same p q k (T .frames k l b ∙ rw w) ∙ W .forever;
           }
 
       by : bit m k ≡ false → (w : Bool) → waits p m k ≡ w → (u : Bool) → used p Jobs k ≡ u → (waited-for q k ≡ 0) ⊎ Waits q k
@@ -226,11 +228,9 @@ module _ (p : List ℕ) (S : Sound p) (t key : ℕ) (top : used p Jobs t ≡ tru
       go false b = by b (waits p m k) refl (used p Jobs k) refl
 
   ready-kept : (k : ℕ) → k < positions Jobs → bit m k ≡ false → ready p k ≡ true → ready q k ≡ true
-  unfolding ready
   ready-kept k l b r =
-      let d = both (leb 1 (priority p k)) (eqb (timeout p k) 0) r in
-      let z = eqb-true (timeout p k) 0 (d .1) in
-      rw (taken-priority p q m c key T k l b, d .0) (eq-eqb (timeout q k) 0 (⊎-elim (λ e. e) (λ e. e ∙ z) (timeout-is k l)))
+      let d = ready-has p k r in
+      ready-by q k (rw (taken-priority p q m c key T k l b) (d .0)) (⊎-elim (λ e. e) (λ e. e ∙ d .1) (timeout-is k l))
 
   jobs-kept : Jobs-fine q
   jobs-kept =
@@ -244,7 +244,7 @@ module _ (p : List ℕ) (S : Sound p) (t key : ℕ) (top : used p Jobs t ≡ tru
         zero-unowned = first-of owner-field (omega arith) ∙ J .zero-unowned;
         urgent = λ k l. urgent-by k l (bit m k) refl;
         gained = λ k l. gained-by k l (bit m k) refl;
-        frames = λ k l. ⊎-elim (λ (e : timeout q k ≡ 0). inl (rw e (omega arith))) (λ (e : timeout q k ≡ timeout p k). rw e (J .frames k l)) (timeout-is k l);
+        frames = λ k l. ⊎-elim (λ (e : timeout q k ≡ pos 0). subst Timely (sym e) timely-zero) (λ (e : timeout q k ≡ timeout p k). subst Timely (sym e) (J .frames k l)) (timeout-is k l);
         older = λ k u. let v = was Jobs k u in rw (T .same Jobs k owner-field (used-below q Jobs k u) (omega arith) (v .1), T .same Jobs k number-field (used-below q Jobs k u) (omega arith) (v .1)) (J .older k (v .0));
         waits = waits-kept;
         idle = λ k l. idle-by k l (bit m k) refl;

@@ -7,13 +7,14 @@ use mathlib.Core.List.{List}
 use lib.ListN.{length, length-set}
 use lib.Seq.{getD-set-same, getD-set-other}
 use lib.Dec.{eqb}
+use lib.IntN.{pos}
 use native.Mathlib.Omega.{arith}
 use native.Mathlib.Nat.{eq-or-lt-of-le, le-of-suc-le-suc, not-suc-le-zero}
 use Rattle.words.specs.Words.{word, put, clear}
 use Rattle.words.specs.Bits.{bit}
 use Rattle.words.proofs.Tests.{lt-or-ge}
 use Rattle.picture.specs.Layout.{first-job, positions, width, first-record, heap-base}
-use Rattle.picture.specs.Records.{slot, timeout, waited-for, delivered, used, key-field, timeout-field, wait-field, with-key, with-timeout, with-wait, members}
+use Rattle.picture.specs.Records.{slot, field, waited-for, delivered, used, key-field, timeout-field, wait-field, with-key, with-timeout, with-wait, members}
 use Rattle.picture.specs.declared.Table.{Table}
 use Rattle.picture.specs.declared.Table.the-variants.{Jobs, Channels}
 use Rattle.picture.proofs.Records.{slot-within, used-is, used-past}
@@ -124,22 +125,22 @@ woken-other : (m key : ℕ) (p : List ℕ) (k x : ℕ) → Spared k x → word (
 unfolding woken
 woken-other m key p k x s = go (waits p m k)
   where
-    go : (b : Bool) → word (cond b (with-key (with-wait (with-timeout p k 0) k 0) k key) p) x ≡ word p x
+    go : (b : Bool) → word (cond b (with-key (with-wait (with-timeout p k (pos 0)) k 0) k key) p) x ≡ word p x
     go true =
-        getD-set-other (with-wait (with-timeout p k 0) k 0) (slot Jobs k + key-field) x key 0 (s key-field (omega arith) (omega arith))
-        ∙ getD-set-other (with-timeout p k 0) (slot Jobs k + wait-field) x 0 0 (s wait-field (omega arith) (omega arith))
+        getD-set-other (with-wait (with-timeout p k (pos 0)) k 0) (slot Jobs k + key-field) x key 0 (s key-field (omega arith) (omega arith))
+        ∙ getD-set-other (with-timeout p k (pos 0)) (slot Jobs k + wait-field) x 0 0 (s wait-field (omega arith) (omega arith))
         ∙ getD-set-other p (slot Jobs k + timeout-field) x 0 0 (s timeout-field (omega arith) (omega arith))
     go false = refl
 
 module _ (m key : ℕ) (p : List ℕ) (k : ℕ) (l : k < positions Jobs) (long : heap-base ≤ length p) where
-  woken-timeout : timeout (woken m key p k) k ≡ cond (waits p m k) 0 (timeout p k)
+  woken-timeout : field (woken m key p k) Jobs k timeout-field ≡ cond (waits p m k) 0 (field p Jobs k timeout-field)
   unfolding woken
   woken-timeout = go (waits p m k)
     where
-      go : (b : Bool) → word (cond b (with-key (with-wait (with-timeout p k 0) k 0) k key) p) (slot Jobs k + timeout-field) ≡ cond b 0 (timeout p k)
+      go : (b : Bool) → word (cond b (with-key (with-wait (with-timeout p k (pos 0)) k 0) k key) p) (slot Jobs k + timeout-field) ≡ cond b 0 (field p Jobs k timeout-field)
       go true =
-          getD-set-other (with-wait (with-timeout p k 0) k 0) (slot Jobs k + key-field) (slot Jobs k + timeout-field) key 0 (λ z. omega arith)
-          ∙ getD-set-other (with-timeout p k 0) (slot Jobs k + wait-field) (slot Jobs k + timeout-field) 0 0 (λ z. omega arith)
+          getD-set-other (with-wait (with-timeout p k (pos 0)) k 0) (slot Jobs k + key-field) (slot Jobs k + timeout-field) key 0 (λ z. omega arith)
+          ∙ getD-set-other (with-timeout p k (pos 0)) (slot Jobs k + wait-field) (slot Jobs k + timeout-field) 0 0 (λ z. omega arith)
           ∙ getD-set-same p (slot Jobs k + timeout-field) 0 0 (omega arith)
       go false = refl
 
@@ -147,18 +148,18 @@ module _ (m key : ℕ) (p : List ℕ) (k : ℕ) (l : k < positions Jobs) (long :
   unfolding woken
   woken-wait = go (waits p m k)
     where
-      go : (b : Bool) → word (cond b (with-key (with-wait (with-timeout p k 0) k 0) k key) p) (slot Jobs k + wait-field) ≡ cond b 0 (waited-for p k)
+      go : (b : Bool) → word (cond b (with-key (with-wait (with-timeout p k (pos 0)) k 0) k key) p) (slot Jobs k + wait-field) ≡ cond b 0 (waited-for p k)
       go true =
-          getD-set-other (with-wait (with-timeout p k 0) k 0) (slot Jobs k + key-field) (slot Jobs k + wait-field) key 0 (λ z. omega arith)
-          ∙ getD-set-same (with-timeout p k 0) (slot Jobs k + wait-field) 0 0 (simp length-set (omega arith))
+          getD-set-other (with-wait (with-timeout p k (pos 0)) k 0) (slot Jobs k + key-field) (slot Jobs k + wait-field) key 0 (λ z. omega arith)
+          ∙ getD-set-same (with-timeout p k (pos 0)) (slot Jobs k + wait-field) 0 0 (simp length-set (omega arith))
       go false = refl
 
   woken-key : delivered (woken m key p k) k ≡ cond (waits p m k) key (delivered p k)
   unfolding woken
   woken-key = go (waits p m k)
     where
-      go : (b : Bool) → word (cond b (with-key (with-wait (with-timeout p k 0) k 0) k key) p) (slot Jobs k + key-field) ≡ cond b key (delivered p k)
-      go true = getD-set-same (with-wait (with-timeout p k 0) k 0) (slot Jobs k + key-field) key 0 (simp length-set (omega arith))
+      go : (b : Bool) → word (cond b (with-key (with-wait (with-timeout p k (pos 0)) k 0) k key) p) (slot Jobs k + key-field) ≡ cond b key (delivered p k)
+      go true = getD-set-same (with-wait (with-timeout p k (pos 0)) k 0) (slot Jobs k + key-field) key 0 (simp length-set (omega arith))
       go false = refl
 
 -- who waits depends on the mask of jobs and the job's wait
@@ -198,7 +199,7 @@ module _ (m key : ℕ) (p : List ℕ) where
     unfolding so-far
     turn f h = each-at (woken m key) (positions Jobs) k p (slot Jobs k + f) l (λ q j i n. woken-other m key q j (slot Jobs k + f) (λ g a b z. n (omega arith)))
 
-    pub wakes-timeout : timeout (each (woken m key) (positions Jobs) p) k ≡ cond (waits p m k) 0 (timeout p k)
+    pub wakes-timeout : field (each (woken m key) (positions Jobs) p) Jobs k timeout-field ≡ cond (waits p m k) 0 (field p Jobs k timeout-field)
     wakes-timeout = turn timeout-field (omega arith) ∙ woken-timeout m key so-far k l so-long ∙ rw (waited, before timeout-field (omega arith))
 
     pub wakes-wait : waited-for (each (woken m key) (positions Jobs) p) k ≡ cond (waits p m k) 0 (waited-for p k)

@@ -10,7 +10,7 @@ use native.Mathlib.Omega.{arith}
 use Rattle.words.specs.Words.{word, put}
 use Rattle.words.specs.Bits.{bit}
 use Rattle.picture.specs.Layout.{nobody, current-word, positions, width, first-record, heap-base}
-use Rattle.picture.specs.Records.{slot, field, base-field, priority-field, accumulated-field, timeout-field, wait-field, key-field, priority, accumulated, timeout, waited-for, delivered, used, members}
+use Rattle.picture.specs.Records.{slot, field, base-field, priority-field, accumulated-field, timeout-field, wait-field, key-field, priority, accumulated, waited-for, delivered, used, members}
 use Rattle.picture.specs.declared.Table.{Table}
 use Rattle.picture.specs.declared.Table.the-variants.{Jobs, Channels}
 use Rattle.picture.proofs.Records.{slot-within, shared}
@@ -39,7 +39,7 @@ pub record Taken (p q : List ℕ) (m c key : ℕ) : Type 0 where
   pub same : (t : Table) (k f : ℕ) → k < positions t → f ≤ base-field → bit (going m c t) k ≡ false → field q t k f ≡ field p t k f
   pub same-job : (k f : ℕ) → k < positions Jobs → f < width Jobs → (f ≡ timeout-field → ⊥) → (f ≡ wait-field → ⊥) → (f ≡ key-field → ⊥) → bit m k ≡ false → field q Jobs k f ≡ field p Jobs k f
   pub same-channel : (k f : ℕ) → k < positions Channels → f < width Channels → bit c k ≡ false → field q Channels k f ≡ field p Channels k f
-  pub frames : (k : ℕ) → k < positions Jobs → bit m k ≡ false → timeout q k ≡ cond (waits p m k) 0 (timeout p k)
+  pub frames : (k : ℕ) → k < positions Jobs → bit m k ≡ false → field q Jobs k timeout-field ≡ cond (waits p m k) 0 (field p Jobs k timeout-field)
   pub wait : (k : ℕ) → k < positions Jobs → bit m k ≡ false → waited-for q k ≡ cond (waits p m k) 0 (waited-for p k)
   pub gets : (k : ℕ) → k < positions Jobs → bit m k ≡ false → delivered q k ≡ cond (waits p m k) key (delivered p k)
 

@@ -4,6 +4,7 @@ use Prim.Native.Nat.{ℕ, _+_, _*_, _/_, _≤_, _<_}
 use mathlib.Core.Path.{_≡_}
 use mathlib.Core.Bool.{Bool, true, false}
 use mathlib.Core.List.{List}
+use lib.IntN.{pos}
 use Rattle.words.specs.Words.{word}
 use Rattle.words.specs.Each.{In}
 use Rattle.picture.specs.Layout.{nobody, current-word, positions, width}
@@ -24,7 +25,7 @@ pub record Member (p : List ℕ) (t n : ℕ) : Type 0 where
 
 -- a job that waited for one of the tree has timeout and wait 0 and the key to deliver
 pub record Woken (q : List ℕ) (k key : ℕ) : Type 0 where
-  pub frames : timeout q k ≡ 0
+  pub frames : timeout q k ≡ pos 0
   pub wait : waited-for q k ≡ 0
   pub gets : delivered q k ≡ key
 

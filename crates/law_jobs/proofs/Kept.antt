@@ -7,25 +7,27 @@ use mathlib.Core.List.{List}
 use native.Mathlib.Omega.{arith}
 use lib.ListN.{length, set, length-set}
 use lib.Seq.{set-out}
-use lib.Dec.{leb, eqb}
-use borrow.Author.Tests.{leb-true}
+use lib.Dec.{leb}
+use borrow.Author.Tests.{le-leb, leb-true}
 use Rattle.words.specs.Words.{word}
+use Rattle.words.specs.Signed.{bits}
 use Rattle.words.proofs.Tests.{both, false-true}
 use Rattle.picture.specs.Layout.{nobody, current-word, positions, width, greatest-size}
-use Rattle.picture.specs.Records.{slot, field, number, priority, timeout, used, ready, active, accumulated-field, number-field, priority-field, timeout-field, wait-field, with-accumulated, with-field, with-timeout, with-wait}
+use Rattle.picture.specs.Records.{slot, field, number, priority, used, ready, active, accumulated-field, number-field, priority-field, timeout-field, wait-field, with-accumulated, with-field, with-timeout, with-wait}
 use Rattle.picture.specs.Numbers.{position, live}
 use Rattle.picture.specs.declared.Table.{Table}
 use Rattle.picture.specs.declared.Table.the-variants.{Jobs}
 use Rattle.picture.proofs.Numbers.{Live, live-is}
-use Rattle.picture.specs.Layout.{greatest-priority, greatest-timeout}
+use Rattle.picture.specs.Layout.{greatest-priority, without-end}
+use Rattle.picture.proofs.Timeout.{timeout-same, ready-same, ready-has}
 use Rattle.sound.specs.Sound.{sound}
 use Rattle.sound_facts.proofs.Sound.{Sizes, Current, Sound}
 use Rattle.sound_facts.proofs.View.{view, sound-again}
 use Rattle.sound_facts.proofs.Ages.{Ages, ages-still}
-use Rattle.timeouts.specs.Timeout.{timeout-in, timeout-of, low-half, longword}
+use Rattle.timeouts.specs.Timeout.{timeout-in, timeout-of, low-half, value}
 use Rattle.timeouts.specs.declared.Timeout.{Timeout}
 use Rattle.timeouts.specs.declared.Timeout.the-variants.{Zero, Frames, Endless, Bad}
-use Rattle.timeouts.proofs.Cases.{longword-within}
+use Rattle.timeouts.proofs.Cases.{value-timely}
 use Rattle.calls.specs.Outcome.{Outcome}
 use Rattle.calls.specs.Call.{outcome}
 use Rattle.calls.specs.Registers.{D2, D3, caller}
@@ -59,12 +61,12 @@ suspend-keeps-sound p d h =
     let S = view p h in
     suspend-ways (λ (o : Outcome). sound (o .picture) ≡ true) p d (λ k. h) (λ lives _.
     let u = at-used p (job p d) lives in
-    let t = longword (timeout-in (D3 d)) in
-    sound-again _ (written-nobody-sound p (suspended p (job-position p d) t) (job-position p d) S (suspended-written p S (job-position p d) u t) (suspended-turning p S (job-position p d) u t (longword-within (low-half (D3 d))))))
+    let t = value (timeout-in (D3 d)) in
+    sound-again _ (written-nobody-sound p (suspended p (job-position p d) t) (job-position p d) S (suspended-written p S (job-position p d) u t) (suspended-turning p S (job-position p d) u t (value-timely (low-half (D3 d))))))
 
 pub suspend-ages : (p d : List ℕ) → sound p ≡ true → (t : Table) → Ages p (outcome suspend p d .picture) t
 suspend-ages p d h t = suspend-ways (λ (o : Outcome). Ages p (o .picture) t) p d (λ k. ages-still p t) (λ lives _.
-    let x = longword (timeout-in (D3 d)) in
+    let x = value (timeout-in (D3 d)) in
     nobody-ages p (suspended p (job-position p d) x) (suspended-written p (view p h) (job-position p d) (at-used p (job p d) lives) x .steady) t)
 
 -- $9
@@ -110,12 +112,11 @@ module _ (p : List ℕ) (S : Sound p) (n v : ℕ) (lives : live p Jobs n ≡ tru
   changed = prioritized-written p S k k-used v
 
   two : ready p c ≡ true → c ≡ k → ⊥
-  unfolding ready active
-  two r e = false-true (sym idle ∙ subst (λ (x : ℕ). leb 1 (priority p x) ≡ true) e (both (leb 1 (priority p c)) (eqb (timeout p c) 0) r .0))
+  unfolding active
+  two r e = false-true (sym idle ∙ subst (λ (x : ℕ). leb 1 (priority p x) ≡ true) e (le-leb 1 (priority p c) (ready-has p c r .0)))
 
   still-ready : ready p c ≡ true → ready q c ≡ true
-  unfolding ready
-  still-ready r = let a = changed .others c (two r) in rw (a priority-field (omega arith), a timeout-field (omega arith)) r
+  still-ready r = let a = changed .others c (two r) in ready-same p q c (a priority-field (omega arith)) (timeout-same p q c (a timeout-field (omega arith))) ∙ r
 
   still-current : Current p → Current q
   still-current (inl e) = inl (prioritized-current p S k k-used v ∙ e)
@@ -132,12 +133,12 @@ module _ (p : List ℕ) (S : Sound p) (n v : ℕ) (lives : live p Jobs n ≡ tru
   past-end x f w l e = let z : position (caller p) ≡ 65535 = rw e refl in set-out x (slot Jobs c + f) w (omega arith)
 
   abbrev c3 : List ℕ
-  c3 = with-wait (with-accumulated (with-timeout q c nobody) c 0) c n
+  c3 = with-wait (with-accumulated (with-timeout q c without-end) c 0) c n
 
   nowhere : caller p ≡ nobody → c3 ≡ q
   nowhere e =
       let l : length q ≤ greatest-size = rw (changed .steady .long) (S .sizes .most) in
-      rw (past-end q timeout-field nobody l e, past-end q accumulated-field 0 l e, past-end q wait-field n l e)
+      rw (past-end q timeout-field (bits without-end) l e, past-end q accumulated-field 0 l e, past-end q wait-field n l e)
 
   -- the caller waits for the job named, which is another live one
   module _ (l : v ≤ greatest-priority) (cl : live p Jobs (caller p) ≡ true) (cr : ready p c ≡ true) where

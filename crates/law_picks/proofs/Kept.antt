@@ -6,20 +6,18 @@ use mathlib.Core.Path.{_≡_, refl, sym, _∙_, ap}
 use mathlib.Core.Logic.{_≢_, _⊎_, inl, inr, ⊎-elim, by-cases}
 use mathlib.Core.Bool.{Bool, true, false, false≢true}
 use mathlib.Core.List.{List}
-use lib.Dec.{leb, eqb}
 use lib.ListN.{length}
 use lib.Seq.{getD-set-same, getD-set-other}
-use borrow.Author.Tests.{eqb-true}
 use Rattle.words.specs.Words.{word}
-use Rattle.words.proofs.Tests.{both}
 use Rattle.picture.specs.Layout.{nobody, current-word, positions, width}
 use Rattle.picture.specs.Records.{slot, field, number, priority, accumulated, timeout, ready, accumulated-field, key-field, number-field, priority-field, timeout-field}
 use Rattle.picture.specs.declared.Table.the-variants.{Jobs}
 use Rattle.picture.specs.Layout.{hold}
+use Rattle.picture.proofs.Timeout.{timeout-same, ready-same, ready-has}
 use Rattle.turns.specs.Pick.{chosen-job, accumulated-after, picked}
 use Rattle.turns.specs.Tick.{ticked}
 use Rattle.law_picks.specs.Stretch.{Orderly, Stands}
-use Rattle.turns.proofs.Pick.{ready-same, picked-has-none, idle-keeps, ready-gains}
+use Rattle.turns.proofs.Pick.{picked-has-none, idle-keeps, ready-gains}
 use Rattle.law_picks.proofs.Rule.{chosen-is-who-the-rule-picks}
 use Rattle.law_picks.proofs.Given.{pick-changes-only, pick-keeps-the-length, pick-gives-a-turn, nobody-picked-leaves}
 use Rattle.turns.proofs.Tick.{none-stays, tick-keeps-the-number, tick-keeps-the-priority, tick-keeps-accumulated, tick-keeps-the-length, tick-lets-timeouts-fall}
@@ -36,7 +34,7 @@ pub pick-keeps-the-priority : (p : List ℕ) (k : ℕ) → priority (picked p) k
 pick-keeps-the-priority p k = pick-keeps-fields p k priority-field (omega arith) (omega arith) (omega arith)
 
 pub pick-keeps-the-timeout : (p : List ℕ) (k : ℕ) → timeout (picked p) k ≡ timeout p k
-pick-keeps-the-timeout p k = pick-keeps-fields p k timeout-field (omega arith) (omega arith) (omega arith)
+pick-keeps-the-timeout p k = timeout-same p (picked p) k (pick-keeps-fields p k timeout-field (omega arith) (omega arith) (omega arith))
 
 -- who is ready stays so, and a job that stands stays standing
 pub pick-keeps-who-is-ready : (p : List ℕ) (k : ℕ) → ready (picked p) k ≡ ready p k
@@ -86,14 +84,9 @@ pick-keeps-orderly p ok =
         by-cases (ℕ-discrete i (chosen-job p)) (λ q. picked-has-none p (chosen-job p) i q) (λ ne. idle-keeps p (chosen-job p) i ne e ∙ ok .idle i l e)
 
 -- a ready job has no timeout, so a tick leaves it ready
-pub ready-has-no-timeout : (p : List ℕ) (k : ℕ) → ready p k ≡ true → timeout p k ≡ 0
-unfolding ready
-ready-has-no-timeout p k e = eqb-true (timeout p k) 0 (both (leb 1 (priority p k)) (eqb (timeout p k) 0) e .1)
-
 pub tick-keeps-ready : (p : List ℕ) (k : ℕ) → k < positions Jobs → slot Jobs (positions Jobs) ≤ length p → ready p k ≡ true → ready (ticked p) k ≡ true
 tick-keeps-ready p k l whole e =
-    let z = ready-has-no-timeout p k e in
-    ready-same p (ticked p) k (tick-keeps-the-priority p k) (tick-lets-timeouts-fall p whole .falls k l ∙ none-stays (timeout p k) (omega arith)) ∙ e
+    ready-same p (ticked p) k (tick-keeps-the-priority p k) (tick-lets-timeouts-fall p whole .falls k l ∙ none-stays (timeout p k) (ready-has p k e .1)) ∙ e
 
 pub tick-keeps-standing : (n j g : ℕ) (p : List ℕ) → j < positions Jobs → slot Jobs (positions Jobs) ≤ length p → Stands n j g p → Stands n j g (ticked p)
 tick-keeps-standing n j g p l whole s =

@@ -13,7 +13,7 @@ use Rattle.picture.specs.Records.{slot, number, priority, accumulated, timeout,
 use Rattle.picture.specs.declared.Table.the-variants.{Jobs}
 use Rattle.law_picks.specs.Stretch.{Stands, Quiet, Stretch, quiet}
 use Rattle.turns.specs.Tick.{ticked}
-use Rattle.turns.proofs.Pick.{ready-same}
+use Rattle.picture.proofs.Timeout.{ready-same}
 use Rattle.turns.proofs.Tick.{tick-keeps-accumulated}
 
 -- what is quiet: nothing, and one quiet thing after another

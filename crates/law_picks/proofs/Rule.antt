@@ -7,12 +7,10 @@ use mathlib.Core.Path.{_≡_, refl, sym, _∙_, subst}
 use mathlib.Core.Logic.{_≢_, _⊎_, inl, inr, ⊎-elim, by-cases}
 use mathlib.Core.Bool.{Bool, true, false, false≢true}
 use mathlib.Core.List.{List}
-use lib.Dec.{leb, eqb}
-use borrow.Author.Tests.{leb-true}
-use Rattle.words.proofs.Tests.{both}
 use Rattle.picture.specs.Layout.{positions}
-use Rattle.picture.specs.Records.{priority, accumulated, timeout, used, ready}
+use Rattle.picture.specs.Records.{priority, accumulated, used, ready}
 use Rattle.picture.specs.declared.Table.the-variants.{Jobs}
+use Rattle.picture.proofs.Timeout.{ready-has}
 use Rattle.turns.specs.Pick.{preferred, chosen-below, chosen-job}
 use Rattle.law_picks.specs.Stretch.{Chosen}
 use Rattle.turns.proofs.Pick.{idle-passed, first-taken, more-taken, less-passed}
@@ -103,9 +101,8 @@ rule-picks-one p n m k a b =
 
 -- where unused records have no priority, as in a sound picture, a ready job is at a position in use
 pub ready-is-used : (p : List ℕ) (k : ℕ) → (used p Jobs k ≡ false → priority p k ≡ 0) → ready p k ≡ true → used p Jobs k ≡ true
-unfolding ready
 ready-is-used p k h e = by-used (used p Jobs k) refl
   where
     by-used : (b : Bool) → used p Jobs k ≡ b → used p Jobs k ≡ true
     by-used true q = q
-    by-used false q = let z = h q in let l = leb-true 1 (priority p k) (both (leb 1 (priority p k)) (eqb (timeout p k) 0) e .0) in absurd (omega arith)
+    by-used false q = let z = h q in let l = ready-has p k e .0 in absurd (omega arith)

@@ -7,9 +7,13 @@ use mathlib.Core.List.{List}
 use native.Mathlib.Omega.{arith}
 use native.Mathlib.Decide.{ℕ-discrete}
 use lib.ListN.{length, length-set}
-use lib.Dec.{leb, eqb}
-use lib.IntN.{ℤ, pos, negsuc}
-use borrow.Author.Tests.{eqb-true, eqb-false}
+use lib.Dec.{eqb}
+use lib.IntN.{ℤ, pos}
+use lib.Signed.{nonNeg}
+use borrow.Author.Tests.{le-leb}
+use mir.Syntax.{w32}
+use mir.ValLaws.{toZ-ofZ}
+use Rattle.words.specs.Signed.{signed, bits, eqZ}
 use Rattle.words.proofs.Tests.{both, false-true}
 use Rattle.picture.specs.Layout.{nobody, heap-base, positions, width}
 use Rattle.picture.specs.Records.{field, number, priority, accumulated, timeout, used, ready, active, accumulated-field, key-field, timeout-field, wait-field, with-accumulated, with-field, with-key, with-priority, with-timeout, with-wait}
@@ -17,10 +21,11 @@ use Rattle.picture.specs.Numbers.{position, live}
 use Rattle.picture.specs.declared.Table.the-variants.{Jobs}
 use Rattle.picture.proofs.Records.{used-below}
 use Rattle.picture.proofs.Numbers.{Live, live-is}
-use Rattle.picture.specs.Layout.{greatest-timeout}
-use Rattle.timeouts.specs.Timeout.{timeout-of, timeout-in, low-half, longword}
+use Rattle.picture.specs.Layout.{without-end}
+use Rattle.picture.proofs.Timeout.{Timely, timely-fits, timely-endless, timeout-same, ready-has}
+use Rattle.timeouts.specs.Timeout.{timeout-of, timeout-in, low-half, value}
 use Rattle.timeouts.specs.declared.Timeout.{Timeout}
-use Rattle.timeouts.specs.declared.Timeout.the-variants.{Zero, Frames, Endless, Bad}
+use Rattle.timeouts.proofs.Cases.{value-timely, value-zero}
 use Rattle.sound.specs.Sound.{sound}
 use Rattle.sound_facts.proofs.Sound.{Sizes, Sound}
 use Rattle.sound_facts.proofs.View.{view}
@@ -94,19 +99,18 @@ record-quiet j k p q w nought ne =
     kept-or-cleared-is-quiet j p q (w .others j ne accumulated-field (omega arith))
     (λ i l ij. by-cases (ℕ-discrete i k) (λ e. inr (ap (accumulated q) e ∙ nought)) (λ n. inl (w .others i n accumulated-field (omega arith))))
 
--- a ready job has timeout 0 and a priority
-ready-timeout : (p : List ℕ) (k : ℕ) → ready p k ≡ true → timeout p k ≡ 0
-unfolding ready
-ready-timeout p k r = eqb-true (timeout p k) 0 (both (leb 1 (priority p k)) (eqb (timeout p k) 0) r .1)
-
+-- a ready job is active, and has timeout 0 with nobody current
 ready-active : (p : List ℕ) (k : ℕ) → ready p k ≡ true → active p k ≡ true
-unfolding ready active
-ready-active p k r = both (leb 1 (priority p k)) (eqb (timeout p k) 0) r .0
+unfolding active
+ready-active p k r = le-leb 1 (priority p k) (ready-has p k r .0)
+
+nobody-timeout : (p : List ℕ) (k : ℕ) → ready (with-nobody p) k ≡ true → timeout p k ≡ pos 0
+nobody-timeout p k r = sym (timeout-same p (with-nobody p) k (field-nobody p k timeout-field)) ∙ ready-has (with-nobody p) k r .1
 
 -- $9
 module _ (p : List ℕ) (k : ℕ) where
   abbrev r1 : List ℕ
-  r1 = with-timeout p k 0
+  r1 = with-timeout p k (pos 0)
 
   abbrev r2 : List ℕ
   r2 = with-wait r1 k 0
@@ -116,7 +120,7 @@ module _ (p : List ℕ) (k : ℕ) where
 
   released-accumulated : (i : ℕ) → accumulated (released p k) i ≡ accumulated p i
   unfolding released
-  released-accumulated i = go (eqb (timeout p k) 0)
+  released-accumulated i = go (eqZ (timeout p k) (pos 0))
     where
       go : (b : Bool) → accumulated (cond b p r3) i ≡ accumulated p i
       go true = refl
@@ -130,19 +134,8 @@ release-is-quiet j l p d h = release-ways (λ (o : Outcome). Quiet j p (o .pictu
     (λ _. nobody-quiet j p (released p (job-position p d)) (kept-is-quiet j p (released p (job-position p d)) (released-accumulated p (job-position p d))))
 
 -- $8: the job suspended has a timeout, so it isn't the one that is ready after
-suspends-some : (z : ℤ) → suspends (timeout-of z) ≡ true → longword (timeout-of z) ≡ 0 → ⊥
-unfolding timeout-of
-suspends-some (pos m) = go (eqb m 0) refl (leb m greatest-timeout)
-  where
-    go : (a : Bool) → eqb m 0 ≡ a → (b : Bool) → suspends (cond a Zero (cond b (Frames m) Bad)) ≡ true → longword (cond a Zero (cond b (Frames m) Bad)) ≡ 0 → ⊥
-    go true e b s z = false-true s
-    go false e true s z = eqb-false m 0 e z
-    go false e false s z = false-true s
-suspends-some (negsuc m) = go (eqb m 0)
-  where
-    go : (a : Bool) → suspends (cond a Endless Bad) ≡ true → longword (cond a Endless Bad) ≡ 0 → ⊥
-    go true s z = let y : nobody ≡ 0 = z in omega arith
-    go false s z = false-true s
+suspends-some : (z : ℤ) → suspends (timeout-of z) ≡ true → value (timeout-of z) ≡ pos 0 → ⊥
+suspends-some z s v = ⊎-elim (λ e. false-true (sym (ap suspends e) ∙ s)) (λ e. false-true (sym (ap suspends e) ∙ s)) (value-zero z v)
 
 module _ (p : List ℕ) (S : Sound p) (k : ℕ) (u : used p Jobs k ≡ true) where
   below : k < positions Jobs
@@ -154,7 +147,7 @@ module _ (p : List ℕ) (S : Sound p) (k : ℕ) (u : used p Jobs k ≡ true) whe
   reads : (q : List ℕ) (f v : ℕ) → f < width Jobs → length q ≡ length p → field (with-field q Jobs k f v) Jobs k f ≡ v
   reads q f v l e = let b = below in let r = room in field-written q k f v (omega arith)
 
-  module _ (t : ℕ) where
+  module _ (t : ℤ) where
     abbrev s1 : List ℕ
     s1 = with-timeout p k t
 
@@ -164,13 +157,14 @@ module _ (p : List ℕ) (S : Sound p) (k : ℕ) (u : used p Jobs k ≡ true) whe
     abbrev s3 : List ℕ
     s3 = with-accumulated s2 k 0
 
-    suspended-timeout : timeout (suspended p k t) k ≡ t
+    suspended-timeout : Timely t → timeout (suspended p k t) k ≡ t
     unfolding suspended
-    suspended-timeout =
-        field-kept s3 k k timeout-field key-field 0 (omega arith) (omega arith) (λ e. omega arith)
+    suspended-timeout h = ap signed
+        (field-kept s3 k k timeout-field key-field 0 (omega arith) (omega arith) (λ e. omega arith)
         ∙ field-kept s2 k k timeout-field accumulated-field 0 (omega arith) (omega arith) (λ e. omega arith)
         ∙ field-kept s1 k k timeout-field wait-field 0 (omega arith) (omega arith) (λ e. omega arith)
-        ∙ reads p timeout-field t (omega arith) refl
+        ∙ reads p timeout-field (bits t) (omega arith) refl)
+        ∙ toZ-ofZ w32 t (timely-fits t h)
 
     suspended-nought : accumulated (suspended p k t) k ≡ 0
     unfolding suspended
@@ -178,9 +172,9 @@ module _ (p : List ℕ) (S : Sound p) (k : ℕ) (u : used p Jobs k ≡ true) whe
         field-kept s3 k k accumulated-field key-field 0 (omega arith) (omega arith) (λ e. omega arith)
         ∙ reads s2 accumulated-field 0 (omega arith) (simp length-set)
 
-    suspended-quiet : (n j g : ℕ) → (t ≡ 0 → ⊥) → Stands n j g (with-nobody (suspended p k t)) → Quiet j p (suspended p k t)
-    suspended-quiet n j g some s = record-quiet j k p (suspended p k t) (suspended-written p S k u t) suspended-nought (λ e.
-        some (sym suspended-timeout ∙ ap (timeout (suspended p k t)) (sym e) ∙ sym (field-nobody (suspended p k t) j 5) ∙ ready-timeout (with-nobody (suspended p k t)) j (s .is-ready)))
+    suspended-quiet : (n j g : ℕ) → Timely t → (t ≡ pos 0 → ⊥) → Stands n j g (with-nobody (suspended p k t)) → Quiet j p (suspended p k t)
+    suspended-quiet n j g h some s = record-quiet j k p (suspended p k t) (suspended-written p S k u t) suspended-nought (λ e.
+        some (sym (suspended-timeout h) ∙ ap (timeout (suspended p k t)) (sym e) ∙ nobody-timeout (suspended p k t) j (s .is-ready)))
 
   -- $A, $B
   prioritized-nought : (v : ℕ) → accumulated (prioritized p k v) k ≡ 0
@@ -192,10 +186,10 @@ module _ (p : List ℕ) (S : Sound p) (k : ℕ) (u : used p Jobs k ≡ true) whe
 
 pub suspend-is-quiet : (n j g : ℕ) → j < positions Jobs → (p d : List ℕ) → sound p ≡ true → Stands n j g (outcome suspend p d .picture) → Quiet j p (outcome suspend p d .picture)
 suspend-is-quiet n j g l p d h = suspend-ways (λ (o : Outcome). Stands n j g (o .picture) → Quiet j p (o .picture)) p d (λ k _. nothing-is-quiet j p) (λ lives good s.
-    let t = longword (timeout-in (D3 d)) in
+    let t = value (timeout-in (D3 d)) in
     nobody-quiet j p (suspended p (job-position p d) t)
     (suspended-quiet p (view p h) (job-position p d) (live-is p Jobs (job p d) lives .used) t n j g
-    (suspends-some (low-half (D3 d)) (both (suspends (timeout-in (D3 d))) (eqb (A1 d) 0) good .0)) s))
+    (value-timely (low-half (D3 d))) (suspends-some (low-half (D3 d)) (both (suspends (timeout-in (D3 d))) (eqb (A1 d) 0) good .0)) s))
 
 -- $B: the job named has another number
 pub set-priority-is-quiet : (n j g : ℕ) → j < positions Jobs → (p d : List ℕ) → sound p ≡ true → Stands n j g p → (meant p (D1 d) ≡ n → ⊥) → Quiet j p (outcome set-priority p d .picture)
@@ -217,7 +211,7 @@ module _ (p : List ℕ) (S : Sound p) (m v : ℕ) (lives : live p Jobs m ≡ tru
   c = position (caller p)
 
   abbrev c1 : List ℕ
-  c1 = with-timeout q c nobody
+  c1 = with-timeout q c without-end
 
   abbrev c2 : List ℕ
   c2 = with-accumulated c1 c 0
@@ -244,13 +238,14 @@ module _ (p : List ℕ) (S : Sound p) (m v : ℕ) (lives : live p Jobs m ≡ tru
   waits-written =
       written-field q c2 c wait-field m (omega arith) (omega arith)
       (written-field q c1 c accumulated-field 0 (omega arith) (omega arith)
-      (written-field q q c timeout-field nobody (omega arith) (omega arith) (written-none q c c-used)))
+      (written-field q q c timeout-field (bits without-end) (omega arith) (omega arith) (written-none q c c-used)))
 
-  c-timeout : timeout c3 c ≡ nobody
-  c-timeout =
-      field-kept c2 c c timeout-field wait-field m (omega arith) (omega arith) (λ e. omega arith)
+  c-timeout : timeout c3 c ≡ without-end
+  c-timeout = ap signed
+      (field-kept c2 c c timeout-field wait-field m (omega arith) (omega arith) (λ e. omega arith)
       ∙ field-kept c1 c c timeout-field accumulated-field 0 (omega arith) (omega arith) (λ e. omega arith)
-      ∙ reads p S c c-was-used q timeout-field nobody (omega arith) (changed .steady .long)
+      ∙ reads p S c c-was-used q timeout-field (bits without-end) (omega arith) (changed .steady .long))
+      ∙ toZ-ofZ w32 without-end (timely-fits without-end timely-endless)
 
   c1-long : length c1 ≡ length q
   c1-long = simp length-set
@@ -262,8 +257,8 @@ module _ (p : List ℕ) (S : Sound p) (m v : ℕ) (lives : live p Jobs m ≡ tru
 
   not-caller : Stands n j g (with-nobody c3) → j ≡ c → ⊥
   not-caller s e =
-      let z : nobody ≡ 0 = sym c-timeout ∙ ap (timeout c3) (sym e) ∙ sym (field-nobody c3 j 5) ∙ ready-timeout (with-nobody c3) j (s .is-ready) in
-      omega arith
+      let z : without-end ≡ pos 0 = sym c-timeout ∙ ap (timeout c3) (sym e) ∙ nobody-timeout c3 j (s .is-ready) in
+      false-true (ap nonNeg z)
 
   activated-quiet : (t : Timeout) → Stands n j g (with-nobody (waiting q t c m)) → Quiet j p (waiting q t c m)
   unfolding waiting

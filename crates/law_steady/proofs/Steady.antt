@@ -19,7 +19,8 @@ use Rattle.picture.specs.declared.Area.{Area}
 use Rattle.picture.specs.declared.Area.the-variants.{Heap, Transient}
 use Rattle.sound_matching.specs.Match.{area-of}
 use Rattle.sound_matching.proofs.Matched.{Matched}
-use Rattle.picture.specs.Layout.{greatest-priority, hold, greatest-timeout}
+use Rattle.picture.specs.Layout.{greatest-priority, hold}
+use Rattle.picture.proofs.Timeout.{Timely, timeout-same, ready-same}
 use Rattle.picture.proofs.Members.{Holds, holds-low, spares-current, members-same}
 use Rattle.sound_facts.proofs.Sound.{Sizes, Waits, Entries, Jobs-fine, Channels-fine, Tiled, Current, Sound}
 use Rattle.sound_facts.proofs.Same.{Lives, used-same, live-same, EntriesSame, entries-same, AreaSame, blocks-same, kind-same, holder-same, tiled-same, MatchSame, matched-same}
@@ -41,7 +42,7 @@ pub record Steady (p q : List ℕ) : Type 0 where
 pub record Turning (q : List ℕ) (k : ℕ) : Type 0 where
   pub urgent : priority q k ≤ greatest-priority
   pub gained : accumulated q k ≤ hold
-  pub frames : (timeout q k ≤ greatest-timeout) ⊎ (timeout q k ≡ nobody)
+  pub frames : Timely (timeout q k)
   pub waits : (waited-for q k ≡ 0) ⊎ Waits q k
   pub idle : (accumulated q k ≡ 0) ⊎ (ready q k ≡ true)
 
@@ -113,13 +114,12 @@ module _ (p q : List ℕ) (s : Steady p q) where
 
   -- a record that is the same is as fine as it was
   pub alike-turning : (k : ℕ) → k < positions Jobs → Alike p q k → Turning p k → Turning q k
-  unfolding ready
   alike-turning k l a T = record {
     urgent = rw (a priority-field (omega arith)) (T .urgent);
     gained = rw (a accumulated-field (omega arith)) (T .gained);
-    frames = rw (a timeout-field (omega arith)) (T .frames);
-    waits = waits-kept k l (a wait-field (omega arith)) (a timeout-field (omega arith)) (T .waits);
-    idle = rw (a priority-field (omega arith), a accumulated-field (omega arith), a timeout-field (omega arith)) (T .idle);
+    frames = subst Timely (sym (timeout-same p q k (a timeout-field (omega arith)))) (T .frames);
+    waits = waits-kept k l (a wait-field (omega arith)) (timeout-same p q k (a timeout-field (omega arith))) (T .waits);
+    idle = rw (a accumulated-field (omega arith), ready-same p q k (a priority-field (omega arith)) (timeout-same p q k (a timeout-field (omega arith)))) (T .idle);
   }
 
   module _ (S : Sound p) where

@@ -16,7 +16,8 @@ use Rattle.picture.specs.Numbers.{position, live}
 use Rattle.picture.specs.declared.Table.{Table}
 use Rattle.picture.specs.declared.Table.the-variants.{Jobs, Channels}
 use Rattle.picture.proofs.Numbers.{is-live}
-use Rattle.picture.specs.Layout.{greatest-priority, hold, greatest-timeout}
+use Rattle.picture.specs.Layout.{greatest-priority, hold}
+use Rattle.picture.proofs.Timeout.{Timely}
 use Rattle.sound.specs.Sound.{sound}
 use Rattle.sound_facts.proofs.Sound.{Sound, Waits, Current}
 use Rattle.sound_facts.proofs.View.{view, sound-again}
@@ -25,7 +26,7 @@ use Rattle.law_steady.proofs.Steady.{Steady, Turning, Left, steady-sound, stead
 use Rattle.turns.specs.Pick.{chosen-job, accumulated-after, picked}
 use Rattle.law_picks.specs.Stretch.{Orderly, Chosen}
 use Rattle.law_picks.proofs.Rule.{chosen-is-who-the-rule-picks, ready-is-used}
-use Rattle.turns.proofs.Pick.{idle-keeps, ready-same}
+use Rattle.turns.proofs.Pick.{idle-keeps}
 use Rattle.law_picks.proofs.Given.{pick-changes-only, pick-keeps-the-length, pick-keeps-the-head, pick-keeps-the-rest, pick-gives-a-turn, nobody-picked-leaves}
 use Rattle.law_picks.proofs.Kept.{pick-keeps-fields, pick-keeps-the-number, pick-keeps-the-priority, pick-keeps-the-timeout, pick-keeps-who-is-ready, pick-accumulates, pick-holds-accumulated, pick-keeps-orderly, pick-leaves-a-ready-job-current}
 
@@ -111,7 +112,7 @@ module _ (p : List ℕ) (S : Sound p) where
       record {
         urgent = rw (pick-keeps-the-priority p k) (S .jobs .urgent k l);
         gained = pick-holds-accumulated p (orderly .whole) k l (S .jobs .gained k l);
-        frames = rw (pick-keeps-the-timeout p k) (S .jobs .frames k l);
+        frames = subst Timely (sym (pick-keeps-the-timeout p k)) (S .jobs .frames k l);
         waits = waits-kept k l (S .jobs .waits k l);
         idle = go (ready (picked p) k) refl (λ e. o .idle k l e);
       }

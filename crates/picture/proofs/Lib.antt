@@ -2,3 +2,4 @@
 pub mod Records
 pub mod Numbers
 pub mod Members
+pub mod Timeout

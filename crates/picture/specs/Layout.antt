@@ -1,13 +1,14 @@
 -- Document 01, "The picture": what each longword holds. Every number of the layout has its one home here.
 use Prim.Native.Nat.{ℕ, _+_, _*_, _/_}
 use mathlib.Core.List.{List}
+use lib.IntN.{ℤ, negsuc}
 use Rattle.words.specs.Words.{word}
 use Rattle.picture.specs.declared.Table.{Table}
 use Rattle.picture.specs.declared.Table.the-variants.{Jobs, Channels}
 use Rattle.picture.specs.declared.Area.{Area}
 use Rattle.picture.specs.declared.Area.the-variants.{Heap, Transient}
 
--- $FFFFFFFF: nobody, or timeout -1
+-- $FFFFFFFF: nobody
 abbrev pub nobody : ℕ
 nobody = 4294967295
 
@@ -84,3 +85,7 @@ hold = 8191
 
 abbrev pub greatest-timeout : ℕ
 greatest-timeout = 32767
+
+-- timeout -1: without end
+abbrev pub without-end : ℤ
+without-end = negsuc 0

@@ -2,9 +2,11 @@
 use Prim.Native.Nat.{ℕ, _+_, _*_}
 use mathlib.Core.Bool.{Bool, _&&_}
 use mathlib.Core.List.{List}
-use lib.Dec.{leb, ltb, eqb}
+use lib.Dec.{leb, ltb}
+use lib.IntN.{ℤ, pos}
 use Rattle.words.specs.Words.{word, put}
 use Rattle.words.specs.Bits.{bit}
+use Rattle.words.specs.Signed.{signed, bits, eqZ}
 use Rattle.picture.specs.Layout.{mask-word, positions, width, first-record}
 use Rattle.picture.specs.declared.Table.{Table}
 use Rattle.picture.specs.declared.Table.the-variants.{Jobs, Channels}
@@ -50,7 +52,7 @@ key-field = 7
 abbrev pub ending-field : ℕ
 ending-field = 3
 
--- what the fields hold
+-- what the fields hold; a timeout is signed
 abbrev pub number : List ℕ → Table → ℕ → ℕ
 number p t k = field p t k number-field
 
@@ -66,8 +68,8 @@ priority p k = field p Jobs k priority-field
 abbrev pub accumulated : List ℕ → ℕ → ℕ
 accumulated p k = field p Jobs k accumulated-field
 
-abbrev pub timeout : List ℕ → ℕ → ℕ
-timeout p k = field p Jobs k timeout-field
+abbrev pub timeout : List ℕ → ℕ → ℤ
+timeout p k = signed (field p Jobs k timeout-field)
 
 abbrev pub waited-for : List ℕ → ℕ → ℕ
 waited-for p k = field p Jobs k wait-field
@@ -94,8 +96,8 @@ with-priority p k v = with-field p Jobs k priority-field v
 abbrev pub with-accumulated : List ℕ → ℕ → ℕ → List ℕ
 with-accumulated p k v = with-field p Jobs k accumulated-field v
 
-abbrev pub with-timeout : List ℕ → ℕ → ℕ → List ℕ
-with-timeout p k v = with-field p Jobs k timeout-field v
+abbrev pub with-timeout : List ℕ → ℕ → ℤ → List ℕ
+with-timeout p k z = with-field p Jobs k timeout-field (bits z)
 
 abbrev pub with-wait : List ℕ → ℕ → ℕ → List ℕ
 with-wait p k v = with-field p Jobs k wait-field v
@@ -119,7 +121,7 @@ used p t k = ltb k (positions t) && bit (members p t) k
 
 -- ready: priority at least 1 and timeout 0; active: priority at least 1
 unfoldable pub ready : List ℕ → ℕ → Bool
-ready p k = leb 1 (priority p k) && eqb (timeout p k) 0
+ready p k = leb 1 (priority p k) && eqZ (timeout p k) (pos 0)
 
 unfoldable pub active : List ℕ → ℕ → Bool
 active p k = leb 1 (priority p k)

@@ -6,10 +6,10 @@ ghost use lib.ListN.{length};
 ghost use Rattle.words.specs.Words.{word};
 ghost use Rattle.picture.specs.Layout.{positions, width, from, upto, last-word as lastWord, mask-word as maskWord, heap-base as heapBase, greatest-tag as greatestTag};
 ghost use Rattle.picture.specs.declared.Table.the-variants.{Jobs};
-ghost use Rattle.picture.specs.Records.{slot, field, members, with-members as withMembers, used, ready, active};
+ghost use Rattle.picture.specs.Records.{slot, field, timeout, members, with-members as withMembers, used, ready, active};
 ghost use Rattle.picture.specs.Numbers.{tag-weight as tagWeight, tag, position, live, job-at as jobAt, channel-at as channelAt, free-position as freePosition, number-of as numberOf};
 
-// $FFFFFFFF: nobody, or timeout -1.
+// $FFFFFFFF: nobody.
 pub const NOBODY: u32 = 0xFFFF_FFFF;
 
 // The longwords before the tables.
@@ -53,7 +53,10 @@ pub const GREATEST_PRIORITY: u32 = 127;
 
 pub const HOLD: u32 = 8191;
 
-pub const GREATEST_TIMEOUT: u32 = 32767;
+pub const GREATEST_TIMEOUT: i32 = 32767;
+
+// Timeout -1: without end.
+pub const WITHOUT_END: i32 = -1;
 
 // The fields of a record; the first three are those of a channel too, whose last is ENDING.
 pub const NUMBER: usize = 0;
@@ -191,6 +194,14 @@ pub fn field_of(p: &[u32], t: Table, k: usize, f: usize) -> u32
     word(p, slot_of(t, k) + f)
 }
 
+// The timeout of the job at position k.
+pub fn timeout_of(p: &[u32], k: usize) -> i32
+    requires { ⌜ k < positions Jobs ⌝ }
+    ensures { λ r. ⌜ r ≡ timeout (now (p .entry)) k ⌝ }
+{
+    words::signed_of(field_of(p, Table::Jobs, k, TIMEOUT))
+}
+
 // The set of the table's positions in use.
 pub fn members_of(p: &[u32], t: Table) -> u64
     ensures { λ r. ⌜ (r ≡ members (now (p .entry)) t) × (r < 2 ^ positions t) ⌝ }
@@ -229,7 +240,7 @@ pub fn is_ready(p: &[u32], k: usize) -> bool
     requires { ⌜ k < positions Jobs ⌝ }
     ensures { λ r. ⌜ r ≡ ready (now (p .entry)) k ⌝ }
 {
-    (1 <= field_of(p, Table::Jobs, k, PRIORITY)) & (field_of(p, Table::Jobs, k, TIMEOUT) == 0)
+    (1 <= field_of(p, Table::Jobs, k, PRIORITY)) & (timeout_of(p, k) == 0)
 }
 
 // The job at position k is active.

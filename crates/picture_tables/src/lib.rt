@@ -5,7 +5,7 @@ ghost use Prim.Native.Nat.{_<_, _≤_};
 ghost use lib.ListN.{length};
 ghost use Rattle.words.specs.Words.{put};
 ghost use Rattle.picture.specs.Layout.{positions, width, heap-base as heapBase};
-ghost use Rattle.picture.specs.Records.{field, used, ready};
+ghost use Rattle.picture.specs.Records.{field, timeout, used, ready};
 ghost use Rattle.picture.specs.Numbers.{live};
 ghost use Rattle.picture.specs.declared.Table.the-variants.{Jobs};
 
@@ -23,6 +23,14 @@ pub fn field_of(p: &[u32], t: Table, k: usize, f: usize) -> u32
     ensures { λ r. ⌜ r ≡ field (now (p .entry)) t k f ⌝ }
 {
     picture::word_at(p, picture::slot_of(t, k) + f)
+}
+
+// The timeout of the job at position k.
+pub fn timeout_of(p: &[u32], k: usize) -> i32
+    requires { ⌜ (heapBase ≤ length (now p)) × (k < positions Jobs) ⌝ }
+    ensures { λ r. ⌜ r ≡ timeout (now (p .entry)) k ⌝ }
+{
+    words::signed_of(field_of(p, Table::Jobs, k, picture::TIMEOUT))
 }
 
 // Position k is in use.
@@ -53,6 +61,5 @@ pub fn is_ready(p: &[u32], k: usize) -> bool
     requires { ⌜ (heapBase ≤ length (now p)) × (k < positions Jobs) ⌝ }
     ensures { λ r. ⌜ r ≡ ready (now (p .entry)) k ⌝ }
 {
-    (1 <= field_of(p, Table::Jobs, k, picture::PRIORITY))
-        & (field_of(p, Table::Jobs, k, picture::TIMEOUT) == 0)
+    (1 <= field_of(p, Table::Jobs, k, picture::PRIORITY)) & (timeout_of(p, k) == 0)
 }

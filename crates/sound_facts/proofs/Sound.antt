@@ -19,7 +19,8 @@ use Rattle.blocks.specs.Walk.{good, next, blocks}
 use Rattle.sound_matching.specs.Match.{has-block}
 use Rattle.sound_matching.proofs.Matched.{Matched}
 use Rattle.sound_records.specs.Rules.{may-be-unowned}
-use Rattle.picture.specs.Layout.{greatest-priority, hold, greatest-timeout}
+use Rattle.picture.specs.Layout.{greatest-priority, hold, without-end}
+use Rattle.picture.proofs.Timeout.{Timely}
 use Rattle.sound_areas.specs.Rules.{longest-queue}
 
 -- the longwords before the tables
@@ -51,7 +52,7 @@ pub record Queue (p : List ℕ) (i : ℕ) : Type 0 where
 pub record Waits (p : List ℕ) (k : ℕ) : Type 0 where
   pub alive : live p Jobs (waited-for p k) ≡ true
   pub other : waited-for p k ≡ number p Jobs k → ⊥
-  pub forever : timeout p k ≡ nobody
+  pub forever : timeout p k ≡ without-end
 
 -- the owner of an entry, or of a block: a live job, or nobody where that may be
 abbrev pub Owned : List ℕ → Bool → ℕ → Type 0
@@ -87,7 +88,7 @@ pub record Jobs-fine (p : List ℕ) : Type 0 where
   -- accumulated-within
   pub gained : (k : ℕ) → k < positions Jobs → accumulated p k ≤ hold
   -- timeout-within
-  pub frames : (k : ℕ) → k < positions Jobs → (timeout p k ≤ greatest-timeout) ⊎ (timeout p k ≡ nobody)
+  pub frames : (k : ℕ) → k < positions Jobs → Timely (timeout p k)
   -- owner-older
   pub older : (k : ℕ) → used p Jobs k ≡ true → (owner p Jobs k ≡ nobody) ⊎ (tag (owner p Jobs k) < tag (number p Jobs k))
   -- wait-allowed

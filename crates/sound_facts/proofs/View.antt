@@ -7,6 +7,8 @@ use mathlib.Core.List.{List}
 use native.Mathlib.Omega.{arith}
 use lib.ListN.{length}
 use lib.Dec.{leb, eqb}
+use lib.IntN.{pos}
+use lib.Signed.{leZ}
 use borrow.Author.Tests.{leb-true, ltb-true, eqb-true, eqb-false, eq-eqb, ne-eqb, le-leb, lt-leb, lt-ltb, not-true}
 use Rattle.words.specs.Words.{word}
 use Rattle.words.specs.Each.{In}
@@ -26,7 +28,9 @@ use Rattle.blocks.proofs.Walk.{good-is, is-good}
 use Rattle.sound_matching.specs.Match.{area-of, first, has-block, block-matched, entry-matched}
 use Rattle.sound_matching.proofs.Matched.{Matched, matched, matched-entries, matched-blocks}
 use Rattle.sound_records.specs.Rules.{may-be-unowned, zero-base, priority-within, accumulated-within, timeout-within, ends-in-one, blank, positioned, zero-exists, tag-within, tags-differ, tag-once, owner-live, owner-older, zero-unowned, tag-given, wait-allowed, idle-zero}
-use Rattle.picture.specs.Layout.{greatest-timeout}
+use Rattle.picture.specs.Layout.{greatest-timeout, without-end}
+use Rattle.words.specs.Signed.{eqZ}
+use Rattle.words.proofs.Signed.{eqZ-true, eq-eqZ}
 use Rattle.sound_areas.specs.Rules.{length-whole, kind-known, start-zero, free-blank, queue-room, tiles, untouched, kind-fits, holder-live}
 use Rattle.sound_whole.specs.Whole.{size-stated, seven-zero, heap-stated, last-within, current-ready}
 use Rattle.sound.specs.Rule.{Rule}
@@ -103,7 +107,7 @@ module _ (p : List ℕ) where
   unfolding wait-allowed
   waits-by k h = ⊎-elim
       (λ e. inl (eqb-true _ _ e))
-      (λ e. let a = both _ _ e in let b = both _ _ (a .1) in inr (record { alive = a .0; other = eqb-false _ _ (not-true _ (b .0)); forever = eqb-true _ _ (b .1) }))
+      (λ e. let a = both _ _ e in let b = both _ _ (a .1) in inr (record { alive = a .0; other = eqb-false _ _ (not-true _ (b .0)); forever = eqZ-true (timeout p k) without-end (b .1) }))
       (either _ _ h)
 
   queue-by : (i : ℕ) → queue-room p i ≡ true → kind p i ≡ queue-kind → Queue p i
@@ -169,7 +173,7 @@ view p s =
         zero-unowned = eqb-true _ _ (unless (eqb 0 0) _ (h Rule.zero-unowned 0 (omega arith)) refl);
         urgent = λ k l. leb-true _ _ (h Rule.priority-within k l);
         gained = λ k l. leb-true _ _ (h Rule.accumulated-within k l);
-        frames = λ k l. ⊎-elim (λ e. inl (leb-true _ _ e)) (λ e. inr (eqb-true _ _ e)) (either _ _ (h Rule.timeout-within k l));
+        frames = λ k l. both (leZ without-end (timeout p k)) (leZ (timeout p k) (pos greatest-timeout)) (h Rule.timeout-within k l);
         older = λ k u. ⊎-elim (λ e. inl (eqb-true _ _ e)) (λ e. inr (ltb-true _ _ e)) (either _ _ (unless _ _ (h Rule.owner-older k (used-below p Jobs k u)) u));
         waits = λ k l. waits-by p k (h Rule.wait-allowed k l);
         idle = λ k l. ⊎-elim (λ e. inl (eqb-true _ _ e)) inr (either _ _ (h Rule.idle-zero k l));
@@ -261,7 +265,7 @@ module _ (p : List ℕ) where
 
     is-frames : (k : ℕ) → k < positions Jobs → timeout-within p k ≡ true
     unfolding timeout-within
-    is-frames k l = ⊎-elim (λ e. or-left (leb (timeout p k) greatest-timeout) _ (le-leb _ _ e)) (λ e. or-right (leb (timeout p k) greatest-timeout) _ (eq-eqb _ _ e)) (J .frames k l)
+    is-frames k l = rw (J .frames k l .0, J .frames k l .1)
 
     is-older : (k : ℕ) → k < positions Jobs → owner-older p k ≡ true
     unfolding owner-older
@@ -271,7 +275,7 @@ module _ (p : List ℕ) where
     unfolding wait-allowed
     is-waits k l = ⊎-elim
         (λ e. or-left (eqb (waited-for p k) 0) _ (eq-eqb _ _ e))
-        (λ (w : Waits p k). or-right (eqb (waited-for p k) 0) (live p Jobs (waited-for p k) && (not (eqb (waited-for p k) (number p Jobs k)) && eqb (timeout p k) nobody)) (rw (w .alive, ne-eqb _ _ (w .other), eq-eqb _ _ (w .forever))))
+        (λ (w : Waits p k). or-right (eqb (waited-for p k) 0) (live p Jobs (waited-for p k) && (not (eqb (waited-for p k) (number p Jobs k)) && eqZ (timeout p k) without-end)) (rw (w .alive, ne-eqb _ _ (w .other), eq-eqZ (timeout p k) without-end (w .forever))))
         (J .waits k l)
 
     is-idle : (k : ℕ) → k < positions Jobs → idle-zero p k ≡ true

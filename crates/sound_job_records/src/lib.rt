@@ -4,8 +4,10 @@ use picture::GREATEST_TIMEOUT;
 use picture::HOLD;
 use picture::NOBODY;
 use picture::Table;
+use picture::WITHOUT_END;
 use picture_tables::field_of;
 use picture_tables::is_live;
+use picture_tables::timeout_of;
 use sound_records::tag_at;
 ghost use mathlib.Core.Path.{_≡_};
 ghost use mathlib.Core.Bool.{true};
@@ -48,8 +50,8 @@ pub fn timeout_within(p: &[u32], k: usize) -> bool
     requires { ⌜ (heapBase ≤ length (now p)) × (k < positions Jobs) ⌝ }
     ensures { λ r. ⌜ r ≡ timeoutWithin (now (p .entry)) k ⌝ }
 {
-    let timeout = field_of(p, Table::Jobs, k, picture::TIMEOUT);
-    (timeout <= GREATEST_TIMEOUT) | (timeout == NOBODY)
+    let timeout = timeout_of(p, k);
+    (WITHOUT_END <= timeout) & (timeout <= GREATEST_TIMEOUT)
 }
 
 // Every field of a job's record is zero.
@@ -62,7 +64,7 @@ pub fn is_job_zero(p: &[u32], k: usize) -> bool
         & (field_of(p, Table::Jobs, k, picture::BASE) == 0)
         & (field_of(p, Table::Jobs, k, picture::PRIORITY) == 0)
         & (field_of(p, Table::Jobs, k, picture::ACCUMULATED) == 0)
-        & (field_of(p, Table::Jobs, k, picture::TIMEOUT) == 0)
+        & (timeout_of(p, k) == 0)
         & (field_of(p, Table::Jobs, k, picture::WAIT) == 0)
         & (field_of(p, Table::Jobs, k, picture::KEY) == 0)
 }
@@ -103,7 +105,7 @@ pub fn wait_allowed(p: &[u32], k: usize) -> bool
     }
     is_live(p, Table::Jobs, waited)
         & ((waited != field_of(p, Table::Jobs, k, picture::NUMBER))
-            & (field_of(p, Table::Jobs, k, picture::TIMEOUT) == NOBODY))
+            & (timeout_of(p, k) == WITHOUT_END))
 }
 
 // Accumulated is 0 unless ready.

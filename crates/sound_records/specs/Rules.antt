@@ -3,9 +3,12 @@ use Prim.Native.Nat.{ℕ, _+_, _/_, _%_}
 use mathlib.Core.Bool.{Bool, true, false, _&&_, _||_, not}
 use mathlib.Core.List.{List}
 use lib.Dec.{leb, ltb, eqb}
+use lib.IntN.{pos}
+use lib.Signed.{leZ}
 use Rattle.words.specs.Words.{word}
 use Rattle.words.specs.Each.{every}
-use Rattle.picture.specs.Layout.{nobody, width, last-word, greatest-tag, greatest-priority, hold, greatest-timeout}
+use Rattle.words.specs.Signed.{eqZ}
+use Rattle.picture.specs.Layout.{nobody, width, last-word, greatest-tag, greatest-priority, hold, greatest-timeout, without-end}
 use Rattle.picture.specs.Records.{field, number, owner, base, priority, accumulated, timeout, waited-for, ending, used, ready}
 use Rattle.picture.specs.Numbers.{tag, position, live}
 use Rattle.picture.specs.declared.Table.{Table}
@@ -26,7 +29,7 @@ accumulated-within p k = leb (accumulated p k) hold
 
 -- "timeout (signed: 0 not suspended, -1 without end, else 1 to 32,767 frames left)"
 unfoldable pub timeout-within : List ℕ → ℕ → Bool
-timeout-within p k = leb (timeout p k) greatest-timeout || eqb (timeout p k) nobody
+timeout-within p k = leZ without-end (timeout p k) && leZ (timeout p k) (pos greatest-timeout)
 
 -- "Channel record: number, owner, block base, 1"
 unfoldable pub ends-in-one : List ℕ → ℕ → Bool
@@ -77,7 +80,7 @@ tag-given p t k = not (used p t k) || leb (tag (number p t k)) (word p (last-wor
 
 -- "a job waits only for a live job other than 0 or itself, and only with timeout -1"
 unfoldable pub wait-allowed : List ℕ → ℕ → Bool
-wait-allowed p k = eqb (waited-for p k) 0 || (live p Jobs (waited-for p k) && (not (eqb (waited-for p k) (number p Jobs k)) && eqb (timeout p k) nobody))
+wait-allowed p k = eqb (waited-for p k) 0 || (live p Jobs (waited-for p k) && (not (eqb (waited-for p k) (number p Jobs k)) && eqZ (timeout p k) without-end))
 
 -- "accumulated is 0 unless ready"
 unfoldable pub idle-zero : List ℕ → ℕ → Bool

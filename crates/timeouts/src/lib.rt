@@ -1,11 +1,11 @@
 // Timeouts in registers: the low word, read as a signed half.
 ghost use mathlib.Core.Path.{_≡_};
-ghost use Rattle.timeouts.specs.Timeout.{timeout-in as timeoutIn, longword};
+ghost use Rattle.timeouts.specs.Timeout.{timeout-in as timeoutIn, value};
 
 // What a low word says: 0, 1 to 32,767 frames, -1 for without end, or anything else.
 pub enum Timeout {
     Zero,
-    Frames(u32),
+    Frames(i32),
     Endless,
     Bad,
 }
@@ -18,23 +18,23 @@ pub fn timeout_in(register: u32) -> Timeout
     if half == 0 {
         return Timeout::Zero;
     }
-    if half == -1 {
+    if half == picture::WITHOUT_END {
         return Timeout::Endless;
     }
     if half < 0 {
         return Timeout::Bad;
     }
-    Timeout::Frames(words::bits_of(half))
+    Timeout::Frames(half)
 }
 
-// The longword by which a timeout stands in a job's record.
-pub fn longword_of(t: Timeout) -> u32
-    ensures { λ r. ⌜ r ≡ longword t ⌝ }
+// The timeout that a job's record gets.
+pub fn value_of(t: Timeout) -> i32
+    ensures { λ r. ⌜ r ≡ value t ⌝ }
 {
     match t {
         Timeout::Zero => 0,
-        Timeout::Frames(n) => n,
-        Timeout::Endless => picture::NOBODY,
+        Timeout::Frames(frames) => frames,
+        Timeout::Endless => picture::WITHOUT_END,
         Timeout::Bad => 0,
     }
 }

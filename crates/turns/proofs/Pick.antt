@@ -14,8 +14,9 @@ use mir.Val.{toZ}
 use Rattle.words.specs.Words.{put}
 use Rattle.picture.specs.Layout.{nobody, current-word, positions, width}
 use Rattle.picture.specs.Keys.{done}
-use Rattle.picture.specs.Records.{field, number, priority, accumulated, timeout, delivered, ready, accumulated-field, priority-field, timeout-field}
+use Rattle.picture.specs.Records.{field, number, priority, accumulated, delivered, ready, accumulated-field, priority-field, timeout-field}
 use Rattle.picture.specs.declared.Table.the-variants.{Jobs}
+use Rattle.picture.proofs.Timeout.{timeout-same, ready-same}
 use Rattle.picture.specs.Layout.{hold}
 use Rattle.turns.specs.Fields.{set-each}
 use Rattle.turns.specs.Pick.{preferred, chosen-below, chosen-job, accumulated-after, turn-given, picked, picked-number, picked-key, answer}
@@ -77,17 +78,12 @@ pub accumulated-after-same : (p q : List ℕ) (m k : ℕ) → ready q k ≡ read
 unfolding accumulated-after
 accumulated-after-same p q m k r a g = rw (r, a, g)
 
--- a ready job is known by its record
-pub ready-same : (p q : List ℕ) (k : ℕ) → priority q k ≡ priority p k → timeout q k ≡ timeout p k → ready q k ≡ ready p k
-unfolding ready
-ready-same p q k g t = rw (g, t)
-
 -- the records that the gains have not reached give what they gave
 pub gain-ahead : (p q : List ℕ) (m k : ℕ) → q ≡ set-each p accumulated-field (accumulated-after p m) k → accumulated-after q m k ≡ accumulated-after p m k
 gain-ahead p q m k e =
     ap (λ (x : List ℕ). accumulated-after x m k) e
     ∙ accumulated-after-same p (set-each p accumulated-field (accumulated-after p m) k) m k
-    (ready-same p (set-each p accumulated-field (accumulated-after p m) k) k (same priority-field (omega arith)) (same timeout-field (omega arith)))
+    (ready-same p (set-each p accumulated-field (accumulated-after p m) k) k (same priority-field (omega arith)) (timeout-same p (set-each p accumulated-field (accumulated-after p m) k) k (same timeout-field (omega arith))))
     (same accumulated-field (omega arith))
     (same priority-field (omega arith))
   where

@@ -1,43 +1,72 @@
 -- Laws of specs/Tick.antt: what a tick changes.
-use Prim.Native.Nat.{ℕ, _+_, _-_, _<_, _≤_}
+use Prim.Native.Nat.{ℕ, zero, suc, _+_, _-_, _<_, _≤_, _^_}
 use native.Mathlib.Omega.{arith}
-use mathlib.Core.Path.{_≡_}
-use mathlib.Core.Logic.{_≢_, _⊎_, inl, inr, ⊎-elim}
+use mathlib.Core.Path.{_≡_, refl, sym, ap, _∙_, subst}
+use mathlib.Core.Bool.{true, false, true≢false, false≢true}
+use mathlib.Core.Logic.{_≢_, _⊎_, inl, inr}
 use mathlib.Core.List.{List}
+use lib.IntN.{ℤ, pos, negsuc, natAbs, _-ℤ_}
 use lib.ListN.{length}
-use borrow.Author.Tests.{lt-leb, le-leb, lt-ltb, le-ltb}
+use lib.Signed.{leZ, nonNeg}
+use borrow.Author.Tests.{le-leb, le-ltb, leb-true}
+use mir.Syntax.{w32}
+use mir.Val.{SFits}
+use mir.ValLaws.{toZ-ofZ}
 use Rattle.words.specs.Words.{word}
-use Rattle.words.proofs.Tests.{lt-or-ge}
-use Rattle.picture.specs.Layout.{positions, width, first-record}
+use Rattle.words.specs.Signed.{signed, bits}
+use Rattle.words.proofs.Signed.{signed-fits}
+use Rattle.picture.specs.Layout.{positions, width, first-record, greatest-timeout}
 use Rattle.picture.specs.Records.{slot, field, number, priority, accumulated, timeout, accumulated-field, number-field, priority-field, timeout-field}
 use Rattle.picture.specs.declared.Table.the-variants.{Jobs}
-use Rattle.turns.specs.Tick.{first-negative, fallen, ticked}
+use Rattle.picture.proofs.Timeout.{Timely}
+use Rattle.turns.specs.Tick.{fallen, ticked}
 use Rattle.turns.proofs.Fields.{length-set-each, set-each-other, set-each-at, other-field-stays}
 
 -- 0 and a negative timeout stay, a positive one falls by 1
-pub none-stays : (t : ℕ) → t < 1 → fallen t ≡ t
+pub none-stays : (t : ℤ) → t ≡ pos 0 → fallen t ≡ t
 unfolding fallen
-none-stays t a = rw (lt-leb 1 t a)
+none-stays t e = subst (λ (z : ℤ). fallen z ≡ z) (sym e) refl
 
-pub positive-falls : (t : ℕ) → 1 ≤ t → t < first-negative → fallen t ≡ t - 1
+pub negative-stays : (t : ℤ) (n : ℕ) → t ≡ negsuc n → fallen t ≡ t
 unfolding fallen
-positive-falls t a b = rw (le-leb 1 t a, lt-ltb t first-negative b)
+negative-stays t n e = subst (λ (z : ℤ). fallen z ≡ z) (sym e) refl
 
-pub negative-stays : (t : ℕ) → first-negative ≤ t → fallen t ≡ t
+pub positive-falls : (t : ℤ) (n : ℕ) → t ≡ pos (suc n) → fallen t ≡ pos n
 unfolding fallen
-negative-stays t a = rw (le-leb 1 t (omega arith), le-ltb t first-negative a)
+positive-falls t n e = rw e
+
+-- the same, by the code's test and its subtraction
+pub at-most-zero : (t : ℤ) → leZ t (pos 0) ≡ true → t ≡ fallen t
+unfolding fallen
+at-most-zero (pos zero) e = refl
+at-most-zero (pos (suc n)) e = absurd (let l : suc n ≤ 0 = leb-true (suc n) 0 e in omega arith)
+at-most-zero (negsuc n) e = refl
+
+pub above-zero : (t : ℤ) → leZ t (pos 0) ≡ false → t -ℤ pos 1 ≡ fallen t
+unfolding fallen
+above-zero (pos zero) e = absurd (true≢false e)
+above-zero (pos (suc n)) e = let z : suc n - 1 ≡ n = omega arith in rw (le-ltb (suc n) 1 (omega arith)) (ap pos z)
+above-zero (negsuc n) e = absurd (true≢false e)
 
 -- a timeout that is none afterwards was none, or had one frame left
-pub ran-out : (t : ℕ) → fallen t ≡ 0 → (t ≡ 0) ⊎ (t ≡ 1)
-ran-out t e =
-    ⊎-elim (λ l. inl (omega arith))
-    (λ g.
-    ⊎-elim (λ l. let f = positive-falls t g l in inr (omega arith)) (λ n. let f = negative-stays t n in absurd (omega arith)) (lt-or-ge t first-negative))
-    (lt-or-ge t 1)
+pub ran-out : (t : ℤ) → fallen t ≡ pos 0 → (t ≡ pos 0) ⊎ (t ≡ pos 1)
+unfolding fallen
+ran-out (pos zero) e = inl refl
+ran-out (pos (suc n)) e = inr (ap (λ (m : ℕ). pos (suc m)) (ap natAbs e))
+ran-out (negsuc n) e = absurd (false≢true (ap nonNeg e))
 
--- a timeout of at most b frames stays so
-pub fallen-is-no-longer : (b t : ℕ) → b < first-negative → t ≤ b → fallen t ≤ b
-fallen-is-no-longer b t small l = ⊎-elim (λ z. omega (arith, none-stays t z)) (λ g. omega (arith, positive-falls t g (omega arith))) (lt-or-ge t 1)
+-- a timeout that may stand in a record stays so
+pub timely-falls : (t : ℤ) → Timely t → Timely (fallen t)
+unfolding fallen
+timely-falls (pos zero) h = h
+timely-falls (pos (suc n)) h = (refl, le-leb n greatest-timeout (let l : suc n ≤ greatest-timeout = leb-true (suc n) greatest-timeout (h .1) in omega arith))
+timely-falls (negsuc n) h = h
+
+pub fallen-fits : (t : ℤ) → SFits w32 t → SFits w32 (fallen t)
+unfolding fallen
+fallen-fits (pos zero) f = f
+fallen-fits (pos (suc n)) f = let l : suc n < 2 ^ 31 = f .sfits in record { sfits = omega arith }
+fallen-fits (negsuc n) f = f
 
 -- what a tick makes of p
 pub record Ticked (p q : List ℕ) : Type 0 where
@@ -48,7 +77,7 @@ pub record Ticked (p q : List ℕ) : Type 0 where
 
 module _ (p : List ℕ) where
   after : ℕ → ℕ
-  after k = fallen (timeout p k)
+  after k = bits (fallen (timeout p k))
 
   -- on any picture a tick changes nothing but timeouts
   pub tick-changes-only : (i : ℕ) → ((k : ℕ) → k < positions Jobs → i ≢ slot Jobs k + timeout-field) → word (ticked p) i ≡ word p i
@@ -86,7 +115,7 @@ module _ (p : List ℕ) where
   tick-lets-timeouts-fall whole =
       record {
         long = tick-keeps-the-length;
-        falls = λ k l. set-each-at p timeout-field after (omega arith) (positions Jobs) k l whole;
+        falls = λ k l. ap signed (set-each-at p timeout-field after (omega arith) (positions Jobs) k l whole) ∙ toZ-ofZ w32 (fallen (timeout p k)) (fallen-fits (timeout p k) (signed-fits (field p Jobs k timeout-field)));
         other-fields = tick-keeps-other-fields;
         elsewhere = tick-changes-only;
       }

@@ -13,7 +13,8 @@ use picture::Table;
 use picture::slot_of;
 use picture_tables::field_of;
 use picture_tables::is_ready;
-use words::FIRST_NEGATIVE;
+use picture_tables::timeout_of;
+use words::bits_of;
 use words::put;
 use words::signed_of;
 ghost use mathlib.Core.Path.{_≡_};
@@ -132,13 +133,10 @@ pub fn pick_turn(p: &mut [u32]) -> Picked
 }
 
 // A timeout after a frame: a positive one falls by 1.
-fn fallen(timeout: u32) -> u32
+fn fallen(timeout: i32) -> i32
     ensures { λ r. ⌜ r ≡ fallen timeout ⌝ }
 {
-    if timeout < 1 {
-        return timeout;
-    }
-    if FIRST_NEGATIVE <= timeout {
+    if timeout <= 0 {
         return timeout;
     }
     timeout - 1
@@ -150,7 +148,7 @@ pub fn tick_frame(p: &mut [u32])
     ensures { λ _. ⌜ now (p .exit) ≡ ticked (now (p .entry)) ⌝ }
 {
     for k in 0..JOBS {
-        let timeout = field_of(p, Table::Jobs, k, TIMEOUT);
-        set_field(p, k, TIMEOUT, fallen(timeout));
+        let timeout = timeout_of(p, k);
+        set_field(p, k, TIMEOUT, bits_of(fallen(timeout)));
     }
 }

@@ -2,3 +2,4 @@
 pub mod Words
 pub mod Bits
 pub mod Each
+pub mod Signed

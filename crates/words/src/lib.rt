@@ -1,10 +1,11 @@
 // Longwords of a lent slice, their bits, and signed numbers in registers.
 ghost use mathlib.Core.Path.{_≡_};
 ghost use Prim.Native.Nat.{_-_, _%_, _<_, _≤_};
-ghost use mir.Syntax.{w16, w32};
-ghost use mir.Val.{toZ, ofZ};
+ghost use mir.Syntax.{w16};
+ghost use mir.Val.{toZ};
 ghost use Rattle.words.specs.Words.{word, put, clear, low-word as lowWord};
 ghost use Rattle.words.specs.Bits.{bit};
+ghost use Rattle.words.specs.Signed.{signed, bits};
 
 // The longword at i, 0 past the end.
 pub fn word(p: &[u32], i: usize) -> u32
@@ -61,7 +62,7 @@ pub const FIRST_NEGATIVE: u32 = 0x8000_0000;
 
 // A longword, read as signed.
 pub fn signed_of(longword: u32) -> i32
-    ensures { λ r. ⌜ r ≡ toZ w32 longword ⌝ }
+    ensures { λ r. ⌜ r ≡ signed longword ⌝ }
 {
     if longword < FIRST_NEGATIVE {
         longword as i32
@@ -70,13 +71,13 @@ pub fn signed_of(longword: u32) -> i32
     }
 }
 
-// The 32 bits by which a key stands in a register.
-pub fn bits_of(key: i32) -> u32
-    ensures { λ r. ⌜ r ≡ ofZ w32 key ⌝ }
+// The longword by which a signed number stands.
+pub fn bits_of(number: i32) -> u32
+    ensures { λ r. ⌜ r ≡ bits number ⌝ }
 {
-    if key >= 0 {
-        key as u32
+    if number >= 0 {
+        number as u32
     } else {
-        !((!key) as u32)
+        !((!number) as u32)
     }
 }

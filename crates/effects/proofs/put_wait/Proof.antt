@@ -7,6 +7,7 @@ use Rattle.effects.proofs.put_wait.Tie as tie
 use Rattle.effects.proofs.put_wait.Reads as reads
 use Rattle.effects.proofs.put_wait.Lts as lts
 use Rattle.effects.proofs.is_endless.Reads as is-endless-reads
+use Rattle.words.proofs.bits_of.Reads as bits-of-reads
 use Rattle.words.proofs.put.Reads as put-reads
 
 is-endless-requires : tie.Need-is-endless-requires
@@ -24,6 +25,9 @@ add-slot c = search needs
 
 add-put : tie.Need-add-put
 add-put c = search needs
+
+bits-of-requires : tie.Need-bits-of-requires
+bits-of-requires c κs = search needs
 
 put-requires : tie.Need-put-requires
 put-requires c κs = search needs
@@ -45,7 +49,10 @@ same-length c = search needs
 
 returns-2 : tie.Need-returns-2
 unfolding waiting
-returns-2 c = rw (c .before .before .put3 .ensures, c .before .before .before .before .before .before .put2 .ensures, c .before .before .before .before .before .before .before .before .before .before .put .ensures, sym (c .before .before .before .before .before .before .before .before .before .before .before .before .before .is-endless .ensures) ∙ not-false _ (c .before .before .before .before .before .before .before .before .before .before .before .before .if1 .left))
+returns-2 c =
+    let w = c .before .before .before .before .before .before .before .before .before .before in
+    let e = w .before .before .before in
+    rw (c .before .before .put3 .ensures, c .before .before .before .before .before .before .put2 .ensures, w .put .ensures, w .before .bits-of .ensures, sym (e .before .is-endless .ensures) ∙ not-false _ (e .if1 .left))
 
 pub put-wait-spec : {M : Type 1} → statement M
 put-wait-spec =
@@ -56,6 +63,7 @@ put-wait-spec =
     mul-slot
     add-slot
     add-put
+    bits-of-requires
     put-requires
     add-put-2
     put-requires-2

@@ -16,6 +16,7 @@ use Rattle.effects.proofs.put_priority.Reads as put-priority-reads
 use Rattle.effects.proofs.put_wait.Reads as put-wait-reads
 use Rattle.picture.proofs.is_active.Reads as is-active-reads
 use Rattle.picture.proofs.job_at.Reads as job-at-reads
+use Rattle.picture.proofs.position_of.Reads as position-of-reads
 use Rattle.timeouts.proofs.timeout_in.Reads as timeout-in-reads
 use Rattle.words.proofs.word.Reads as word-reads
 
@@ -92,11 +93,11 @@ returns-4 c = activate-bad-wait _ _ _ _ (here (c .before .before .before .before
 caller-of-requires : tie.Need-caller-of-requires
 caller-of-requires c κs = search needs
 
-cast-c : tie.Need-cast-c
-cast-c c = search needs
+position-of-requires : tie.Need-position-of-requires
+position-of-requires c κs = search needs
 
 put-priority-requires : tie.Need-put-priority-requires
-put-priority-requires c κs = here (c .before .before .before .before .before .before .before .before .before .before .before .before .before .before .before) .below
+put-priority-requires c κs = here (c .before .before .before .before .before .before .before .before .before .before .before .before .before .before .before .before) .below
 
 put-wait-requires : tie.Need-put-wait-requires
 put-wait-requires c κs = search needs
@@ -105,7 +106,7 @@ put-nobody-requires : tie.Need-put-nobody-requires
 put-nobody-requires c κs = search needs
 
 name-job-requires : tie.Need-name-job-requires
-name-job-requires c κs = here (c .before .before .before .before .before .before .before .before .before .before .before .before .before .before .before .before .before .before .before .before .before .before .before .before .before .before .before) .below
+name-job-requires c κs = here (c .before .before .before .before .before .before .before .before .before .before .before .before .before .before .before .before .before .before .before .before .before .before .before .before .before .before .before .before) .below
 
 same-length-9 : tie.Need-same-length-9
 same-length-9 c = search needs
@@ -114,7 +115,7 @@ same-length-10 : tie.Need-same-length-10
 same-length-10 c = search needs
 
 returns-5 : tie.Need-returns-5
-returns-5 c = activate-done _ _ _ _ (here (c .before .before .before .before .before .before .before .before .before .before .before .before .before .before .before .before .before .before .before .before .before .before .before .before .before .before .before .before .before .before)) _ (c .before .before .before .before .before .before .before .before .before .before .before .before .before .before .before .before .before .before .before .before .before .before .before .before .before .before .before .is-active .ensures) _ (c .before .before .before .before .before .before .before .before .before .before .before .before .before .before .before .before .before .before .before .before .before .before .before .before .word2 .ensures) (c .before .before .before .before .before .before .before .before .before .before .before .before .before .before .before .before .before .before .before .before .before .before .before .before .before .before .if1 .left) _ _ (c .before .before .before .before .before .before .before .before .before .before .before .before .before .before .before .before .before .before .before .before .timeout-in .ensures ∙ ap timeout-in (c .before .before .before .before .before .before .before .before .before .before .before .before .before .before .before .before .before .before .before .before .before .word3 .ensures)) (c .before .before .before .before .before .before .before .before .before .before .before .before .before .before .before .before .before .before .before .is-wait-good .ensures) (c .before .before .before .before .before .before .before .before .before .before .before .before .before .before .before .before .before .before .before .before .before .before .before .if2 .left) _ _ (c .before .before .before .before .before .before .before .before .before .before .before .before .before .before .before .before .before .before .if3 .left) (c .before .before .before .before .before .before .put-nobody .ensures ∙ rw (c .before .before .before .before .before .before .before .before .before .before .put-wait .ensures, c .before .before .before .before .before .before .before .before .before .before .before .before .before .before .put-priority .ensures, c .before .before .before .before .before .before .before .before .before .before .before .before .before .before .before .before .caller-of .ensures)) (c .before .before .name-job .ensures)
+returns-5 c = activate-done _ _ _ _ (here (c .before .before .before .before .before .before .before .before .before .before .before .before .before .before .before .before .before .before .before .before .before .before .before .before .before .before .before .before .before .before .before)) _ (c .before .before .before .before .before .before .before .before .before .before .before .before .before .before .before .before .before .before .before .before .before .before .before .before .before .before .before .before .is-active .ensures) _ (c .before .before .before .before .before .before .before .before .before .before .before .before .before .before .before .before .before .before .before .before .before .before .before .before .before .word2 .ensures) (c .before .before .before .before .before .before .before .before .before .before .before .before .before .before .before .before .before .before .before .before .before .before .before .before .before .before .before .if1 .left) _ _ (c .before .before .before .before .before .before .before .before .before .before .before .before .before .before .before .before .before .before .before .before .before .timeout-in .ensures ∙ ap timeout-in (c .before .before .before .before .before .before .before .before .before .before .before .before .before .before .before .before .before .before .before .before .before .before .word3 .ensures)) (c .before .before .before .before .before .before .before .before .before .before .before .before .before .before .before .before .before .before .before .before .is-wait-good .ensures) (c .before .before .before .before .before .before .before .before .before .before .before .before .before .before .before .before .before .before .before .before .before .before .before .before .if2 .left) _ _ (c .before .before .before .before .before .before .before .before .before .before .before .before .before .before .before .before .before .before .before .if3 .left) (c .before .before .before .before .before .before .put-nobody .ensures ∙ rw (c .before .before .before .before .before .before .before .before .before .before .put-wait .ensures, c .before .before .before .before .before .before .before .before .before .before .before .before .before .before .put-priority .ensures, c .before .before .before .before .before .before .before .before .before .before .before .before .before .before .before .before .position-of .ensures .0, c .before .before .before .before .before .before .before .before .before .before .before .before .before .before .before .before .before .caller-of .ensures)) (c .before .before .name-job .ensures)
 
 pub activate-spec : {M : Type 1} → statement M
 activate-spec =
@@ -143,7 +144,7 @@ activate-spec =
     same-length-8
     returns-4
     caller-of-requires
-    cast-c
+    position-of-requires
     put-priority-requires
     put-wait-requires
     put-nobody-requires

@@ -2,6 +2,8 @@ use Rattle.jobs.proofs.Ways.{suspend-lost, suspend-bad, suspend-done}
 use Rattle.timeouts.specs.Timeout.{timeout-in}
 use Rattle.jobs.proofs.Found.{Found, found, lost}
 use mathlib.Core.Path.{ap, sym, _∙_}
+use mir.Syntax.{w32}
+use mir.ValLaws.{toZ-ofZ}
 use borrow.Author.Needs.{needs}
 use Rattle.jobs.proofs.suspend.Statement.{statement}
 use Rattle.jobs.proofs.suspend.Tie as tie
@@ -13,7 +15,7 @@ use Rattle.effects.proofs.is_suspension.Reads as is-suspension-reads
 use Rattle.effects.proofs.name_job.Reads as name-job-reads
 use Rattle.effects.proofs.put_suspension.Reads as put-suspension-reads
 use Rattle.picture.proofs.job_at.Reads as job-at-reads
-use Rattle.timeouts.proofs.longword_of.Reads as longword-of-reads
+use Rattle.timeouts.proofs.value_of.Reads as value-of-reads
 use Rattle.timeouts.proofs.timeout_in.Reads as timeout-in-reads
 use Rattle.words.proofs.word.Reads as word-reads
 
@@ -66,8 +68,8 @@ same-length-4 c = search needs
 returns-2 : tie.Need-returns-2
 returns-2 c = suspend-bad _ _ _ _ (here (c .before .before .before .before .before .before .before .before)) _ _ _ (c .before .before .before .before .timeout-in .ensures ∙ ap timeout-in (c .before .before .before .before .before .word2 .ensures)) (c .before .before .before .is-suspension .ensures) (c .before .word3 .ensures) (c .if1 .taken)
 
-longword-of-requires : tie.Need-longword-of-requires
-longword-of-requires c κs = search needs
+value-of-requires : tie.Need-value-of-requires
+value-of-requires c κs = search needs
 
 put-suspension-requires : tie.Need-put-suspension-requires
 put-suspension-requires c κs = here (c .before .before .before .before .before .before .before .before .before .before) .below
@@ -85,7 +87,7 @@ same-length-6 : tie.Need-same-length-6
 same-length-6 c = search needs
 
 returns-3 : tie.Need-returns-3
-returns-3 c = suspend-done _ _ _ _ (here (c .before .before .before .before .before .before .before .before .before .before .before .before .before .before .before .before .before .before .before .before .before)) _ _ _ (c .before .before .before .before .before .before .before .before .before .before .before .before .before .before .before .before .before .timeout-in .ensures ∙ ap timeout-in (c .before .before .before .before .before .before .before .before .before .before .before .before .before .before .before .before .before .before .word2 .ensures)) (c .before .before .before .before .before .before .before .before .before .before .before .before .before .before .before .before .is-suspension .ensures) (c .before .before .before .before .before .before .before .before .before .before .before .before .before .before .word3 .ensures) _ _ (c .before .before .before .before .before .before .before .before .before .before .before .before .before .if1 .left) (c .before .before .before .before .before .before .put-nobody .ensures ∙ rw (c .before .before .before .before .before .before .before .before .before .before .put-suspension .ensures, c .before .before .before .before .before .before .before .before .before .before .before .longword-of .ensures)) (c .before .before .name-job .ensures)
+returns-3 c = suspend-done _ _ _ _ (here (c .before .before .before .before .before .before .before .before .before .before .before .before .before .before .before .before .before .before .before .before .before)) _ _ _ (c .before .before .before .before .before .before .before .before .before .before .before .before .before .before .before .before .before .timeout-in .ensures ∙ ap timeout-in (c .before .before .before .before .before .before .before .before .before .before .before .before .before .before .before .before .before .before .word2 .ensures)) (c .before .before .before .before .before .before .before .before .before .before .before .before .before .before .before .before .is-suspension .ensures) (c .before .before .before .before .before .before .before .before .before .before .before .before .before .before .word3 .ensures) _ _ (c .before .before .before .before .before .before .before .before .before .before .before .before .before .if1 .left) (c .before .before .before .before .before .before .put-nobody .ensures ∙ (let v = c .before .before .before .before .before .before .before .before .before .before .before .value-of in rw (c .before .before .before .before .before .before .before .before .before .before .put-suspension .ensures, toZ-ofZ w32 (v .result) (record { sfits = v .ok }), v .ensures))) (c .before .before .name-job .ensures)
 
 pub suspend-spec : {M : Type 1} → statement M
 suspend-spec =
@@ -106,7 +108,7 @@ suspend-spec =
     same-length-3
     same-length-4
     returns-2
-    longword-of-requires
+    value-of-requires
     put-suspension-requires
     put-nobody-requires
     name-job-requires
