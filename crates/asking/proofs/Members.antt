@@ -3,9 +3,8 @@ use Prim.Native.Nat.{ℕ}
 use mathlib.Core.Path.{_≡_, ap}
 use mathlib.Core.Bool.{true}
 use mathlib.Core.List.{List}
-use native.Mathlib.Omega.{arith}
 use Rattle.picture.specs.Records.{used}
-use Rattle.picture.specs.Keys.{done, invalid-job}
+use Rattle.picture.specs.Keys.{done}
 use Rattle.picture.specs.Numbers.{position, live, job-at}
 use Rattle.picture.specs.declared.Table.the-variants.{Jobs}
 use Rattle.picture.proofs.Numbers.{live-is}
@@ -13,7 +12,7 @@ use Rattle.sound.specs.Sound.{sound}
 use Rattle.calls.specs.Outcome.{Outcome}
 use Rattle.calls.specs.Call.{Check, outcome}
 use Rattle.calls.specs.Found.{job-check}
-use Rattle.calls.proofs.Call.{where-all-pass, done-only-where-all-pass, keys-differ}
+use Rattle.calls.proofs.Call.{where-all-pass, done-only-where-all-pass, refusals}
 use Rattle.calls.proofs.Found.{live-job-passes, job-that-passes-is-live, job-check-gives-no-other}
 use Rattle.calls.specs.Registers.{D1, D2, meant}
 use Rattle.tree.specs.Under.{Under}
@@ -31,10 +30,7 @@ pub ask-answers-for-a-member : (p d : List ℕ) → sound p ≡ true → Asked p
 unfolding ask
 ask-answers-for-a-member p d s A =
     let u = live-is p Jobs (meant p (D1 d)) (A .job) .used in
-    ap (λ (o : Outcome). o .key) (where-all-pass ask p d (
-      passing p (D2 d) (A .top),
-      (passing p (meant p (D1 d)) (A .job), (in-tree-has p (owners-in-order p s) (position (D2 d)) (position (meant p (D1 d))) u (A .under), tt)),
-    ))
+    ap (λ (o : Outcome). o .key) (where-all-pass ask p d (search (passing, in-tree-has p (owners-in-order p s) (position (D2 d)) (position (meant p (D1 d))) u (A .under)) depth 12))
   where
     passing : (p : List ℕ) (n : ℕ) → live p Jobs n ≡ true → job-check (job-at p n) .0 ≡ true
     passing p n l = ap (λ (x : Check). x .0) (live-job-passes p n l)
@@ -42,16 +38,9 @@ ask-answers-for-a-member p d s A =
 pub ask-answers-for-members-only : (p d : List ℕ) → sound p ≡ true → outcome ask p d .key ≡ done → Asked p d
 unfolding ask
 ask-answers-for-members-only p d s h =
-    let r = done-only-where-all-pass ask p d (
-      job-check-gives-no-other done (job-at p (D2 d)) refusal,
-      (job-check-gives-no-other done (job-at p (meant p (D1 d))) refusal, ((λ _. refusal), tt)),
-    )
-    h in
+    let r = done-only-where-all-pass ask p d (search (refusals, job-check-gives-no-other) depth 12) h in
     record {
-      top = job-that-passes-is-live p (D2 d) (r .0);
-      job = job-that-passes-is-live p (meant p (D1 d)) (r .1 .0);
-      under = in-tree-says p (owners-in-order p s) (position (D2 d)) (position (meant p (D1 d))) (r .1 .1 .0) .1;
+      top = job-that-passes-is-live p (D2 d) (search);
+      job = job-that-passes-is-live p (meant p (D1 d)) (search);
+      under = in-tree-says p (owners-in-order p s) (position (D2 d)) (position (meant p (D1 d))) (search) .1;
     }
-  where
-    refusal : invalid-job ≡ done → ⊥
-    refusal = keys-differ invalid-job done (λ e. omega arith)

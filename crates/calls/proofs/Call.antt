@@ -5,8 +5,9 @@ use mathlib.Core.Path.{_≡_, refl, sym, ap, _∙_}
 use mathlib.Core.Bool.{Bool, true, false, cond}
 use mathlib.Core.Logic.{_⊎_, inl, inr}
 use mathlib.Core.List.{List, [], _∷_, _++_}
+use native.Mathlib.Omega.{arith}
 use lib.IntN.{ℤ, pos, negsuc}
-use Rattle.picture.specs.Keys.{done}
+use Rattle.picture.specs.Keys.{done, not-complete, invalid-job, out-of-memory, channel-not-open, not-found, bad-name, bad-parameter}
 use Rattle.calls.specs.Outcome.{Outcome, refuse, succeed}
 use Rattle.calls.specs.Call.{Check, Guarded, Call, settled, outcome, verdict, Cause}
 
@@ -74,6 +75,15 @@ verdict-of [] k e = sym e
 verdict-of (c ∷ l) k (inl z) = rw (z .0) (verdict-of l k (z .1))
 verdict-of (c ∷ l) k (inr z) = rw (z .0) (sym (z .1))
 
+-- all checks of a list but the last
+abbrev pub but-last : List Check → List Check
+but-last [] = []
+but-last (c ∷ l) = go c l
+  where
+    go : Check → List Check → List Check
+    go c [] = []
+    go c (b ∷ l) = c ∷ go b l
+
 -- no check of a list gives the key k
 abbrev pub Never : ℤ → List Check → Type 0
 Never k [] = Unit {0}
@@ -112,3 +122,27 @@ mark (negsuc n) = 2 * n + 1
 
 pub keys-differ : (j k : ℤ) → (mark j ≡ mark k → ⊥) → j ≡ k → ⊥
 keys-differ j k n e = n (ap mark e)
+
+-- no key of a refusal is 0
+pub not-complete-refuses : not-complete ≡ done → ⊥
+not-complete-refuses = keys-differ not-complete done (λ e. omega arith)
+
+pub invalid-job-refuses : invalid-job ≡ done → ⊥
+invalid-job-refuses = keys-differ invalid-job done (λ e. omega arith)
+
+pub out-of-memory-refuses : out-of-memory ≡ done → ⊥
+out-of-memory-refuses = keys-differ out-of-memory done (λ e. omega arith)
+
+pub channel-not-open-refuses : channel-not-open ≡ done → ⊥
+channel-not-open-refuses = keys-differ channel-not-open done (λ e. omega arith)
+
+pub not-found-refuses : not-found ≡ done → ⊥
+not-found-refuses = keys-differ not-found done (λ e. omega arith)
+
+pub bad-name-refuses : bad-name ≡ done → ⊥
+bad-name-refuses = keys-differ bad-name done (λ e. omega arith)
+
+pub bad-parameter-refuses : bad-parameter ≡ done → ⊥
+bad-parameter-refuses = keys-differ bad-parameter done (λ e. omega arith)
+
+pub ruleset refusals = (not-complete-refuses, invalid-job-refuses, out-of-memory-refuses, channel-not-open-refuses, not-found-refuses, bad-name-refuses, bad-parameter-refuses)

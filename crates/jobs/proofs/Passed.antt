@@ -28,17 +28,17 @@ module _ (P : Outcome → Type 0) (p d : List ℕ) (refused : (k : ℤ) → P (r
 
   pub suspend-ways : (Lives → suspends (timeout-in (D3 d)) && eqb (A1 d) 0 ≡ true → Leaves (suspended p (job-position p d) (value (timeout-in (D3 d))))) → P (outcome suspend p d)
   unfolding suspend
-  suspend-ways f = of-each-way suspend p d P refused (λ h. f (job-that-passes-is-live p (job p d) (h .0)) (h .1 .0))
+  suspend-ways f = of-each-way suspend p d P refused (λ h. f (job-that-passes-is-live p (job p d) (search)) (search))
 
   pub release-ways : (Lives → Leaves (released p (job-position p d))) → P (outcome release p d)
   unfolding release
-  release-ways f = of-each-way release p d P refused (λ h. f (job-that-passes-is-live p (job p d) (h .0)))
+  release-ways f = of-each-way release p d P refused (λ h. f (job-that-passes-is-live p (job p d) (search)))
 
   pub activate-ways : (Lives → active p (job-position p d) ≡ false → activity-good (low-byte (D2 d)) ≡ true → may-wait (timeout-in (D3 d)) (job p d) ≡ true
       → Leaves (waiting (prioritized p (job-position p d) (low-byte (D2 d))) (timeout-in (D3 d)) (position (caller p)) (job p d))) → P (outcome activate p d)
   unfolding activate
-  activate-ways f = of-each-way activate p d P refused (λ h. f (job-that-passes-is-live p (job p d) (h .0)) (not-true _ (h .1 .0)) (h .1 .1 .0) (h .1 .1 .1 .0))
+  activate-ways f = of-each-way activate p d P refused (λ h. f (job-that-passes-is-live p (job p d) (search)) (not-true (active p (job-position p d)) (search)) (search) (search))
 
   pub set-priority-ways : (Lives → priority-good (low-byte (D2 d)) ≡ true → Leaves (prioritized p (job-position p d) (low-byte (D2 d)))) → P (outcome set-priority p d)
   unfolding set-priority
-  set-priority-ways f = of-each-way set-priority p d P refused (λ h. f (job-that-passes-is-live p (job p d) (h .0)) (h .1 .0))
+  set-priority-ways f = of-each-way set-priority p d P refused (λ h. f (job-that-passes-is-live p (job p d) (search)) (search))

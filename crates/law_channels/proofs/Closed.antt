@@ -12,7 +12,7 @@ use Rattle.words.specs.Words.{word}
 use Rattle.words.specs.Bits.{bit}
 use Rattle.words.specs.Each.{In}
 use Rattle.words.proofs.Tests.{both, false-true, lt-or-ge}
-use Rattle.picture.specs.Layout.{heap-base, heap-word, size-word, zero-word, last-word, greatest-tag, positions, width, from, upto, first-record, current-word}
+use Rattle.picture.specs.Layout.{heap-base, heap-word, size-word, last-word, positions, width, from, upto, first-record, current-word}
 use Rattle.picture.specs.Records.{slot, field, number, owner, base, ending, used, number-field, owner-field, ending-field, members}
 use Rattle.picture.specs.Numbers.{tag, position, live}
 use Rattle.picture.specs.declared.Table.{Table}
@@ -21,7 +21,7 @@ use Rattle.picture.specs.declared.Area.{Area}
 use Rattle.picture.specs.declared.Area.the-variants.{Heap, Transient}
 use Rattle.picture.proofs.Records.{slot-within, used-below, used-is}
 use Rattle.picture.proofs.Numbers.{Live, live-is, is-live}
-use Rattle.picture.proofs.Members.{Spares, holds-low, spares-past, spares-size, spares-current, spares-heap, spares-last, spares-zero, spares-other, members-same, jobs-apart}
+use Rattle.picture.proofs.Members.{Spares, holds-low, spares-past, spares-size, spares-current, spares-heap, spares-last, spares-other, members-same, jobs-apart}
 use Rattle.blocks.specs.Header.{kind-field, kind, kind-of, queue-kind, free}
 use Rattle.blocks.specs.Walk.{starts, blocks}
 use Rattle.headers.specs.Area.{Outside}
@@ -38,6 +38,8 @@ use Rattle.sound_facts.proofs.Sound.{Sizes, Owned, Entries, Jobs-fine, Channels
 use Rattle.sound_facts.proofs.View.{view, sound-again, has-block-used}
 use Rattle.sound_facts.proofs.Same.{used-same, has-block-same, Lives, owned-kept, starts-between}
 use Rattle.sound_facts.proofs.Ages.{Ages}
+use Rattle.sound_facts.proofs.Jobs.{JobsSame, jobs-live, jobs-age, jobs-kept, current-kept}
+use Rattle.sound_facts.proofs.Sizes.{Fixed, sizes-kept}
 use Rattle.rooms.proofs.Sizes.{Lies, areas-lie-in-a-sound-picture}
 use Rattle.law_blocks.proofs.Tables.{TablesSame, mask-same}
 use Rattle.law_blocks.proofs.Change.{Change, from-same, upto-same, change-then, change-tiled, change-standing, change-homes}
@@ -46,7 +48,6 @@ use Rattle.law_blocks.proofs.Freeing.{swept-facts, giving-back-keeps-the-tables
 use Rattle.law_blocks.proofs.Matching.{Still, Stands, Rematched, still-matched}
 use Rattle.channels.specs.Effects.{queue-of, forgotten, closed}
 use Rattle.channels.proofs.Found.{Held, live-queue, live-below}
-use Rattle.law_channels.proofs.Jobs.{JobsSame, jobs-live, jobs-age, jobs-kept, current-kept, sizes-kept}
 use Rattle.law_channels.proofs.Forgotten.{Forgotten, forgotten-is}
 
 module _ (p : List ℕ) (n : ℕ) (s : sound p ≡ true) (l : live p Channels n ≡ true) where
@@ -228,7 +229,7 @@ module _ (p : List ℕ) (n : ℕ) (s : sound p ≡ true) (l : live p Channels n 
 
   pub closed-sound : sound (closed p (position n)) ≡ true
   closed-sound = sound-again q (record {
-    sizes = sizes-kept p q (F .long ∙ block-tables .long) (low size-word (omega arith) (spares-size Channels)) (low heap-word (omega arith) (spares-heap Channels)) (low zero-word (omega arith) (spares-zero Channels))
+    sizes = sizes-kept p q (F .long ∙ block-tables .long) (λ i (x : Fixed i). let l = x .low in low i (omega arith) (x .spared Channels))
         (elim [ Jobs ↦ rw (jobs-same .last) (S .sizes .last Jobs) | Channels ↦ rw (low (last-word Channels) (omega arith) (spares-last Channels Channels)) (S .sizes .last Channels) ])
         (S .sizes);
     jobs = jobs-kept p q jobs-same (S .jobs);

@@ -1,5 +1,4 @@
 -- What opening and closing a channel keep.
-pub mod Jobs
 pub mod Forgotten
 pub mod Closed
 pub mod Close

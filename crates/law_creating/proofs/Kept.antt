@@ -10,7 +10,7 @@ use borrow.Author.Tests.{le-leb, eqb-true}
 use Rattle.words.specs.Words.{word}
 use Rattle.words.specs.Each.{In}
 use Rattle.words.proofs.Tests.{both}
-use Rattle.picture.specs.Layout.{nobody, heap-word, size-word, zero-word, current-word, positions, width}
+use Rattle.picture.specs.Layout.{nobody, current-word, positions, width}
 use Rattle.picture.specs.Records.{field, number, priority, accumulated, timeout, waited-for, used, ready, accumulated-field, base-field, number-field, owner-field, priority-field, timeout-field, wait-field, ending-field, members}
 use Rattle.picture.specs.Records as records
 use Rattle.picture.specs.Numbers.{tag, position, live}
@@ -28,12 +28,13 @@ use Rattle.sound_matching.proofs.Matched.{Matched}
 use Rattle.headers.proofs.Header.{same-or-not}
 use Rattle.picture.specs.Layout.{greatest-priority, hold}
 use Rattle.picture.proofs.Timeout.{Timely, timely-zero, timeout-same, timeout-zero, ready-same}
-use Rattle.picture.proofs.Members.{spares-size, spares-current, spares-heap, spares-zero}
+use Rattle.picture.proofs.Members.{spares-current}
 use Rattle.sound.specs.Sound.{sound}
 use Rattle.sound_facts.proofs.Sound.{Sizes, Waits, Owned, Entries, Jobs-fine, Channels-fine, Current, Sound}
 use Rattle.sound_facts.proofs.View.{sound-again, has-block-used}
 use Rattle.sound_facts.proofs.Same.{used-same, has-block-same, Lives, EntriesSame, entries-same}
 use Rattle.sound_facts.proofs.Ages.{Ages, ages-still}
+use Rattle.sound_facts.proofs.Sizes.{Fixed, sizes-kept}
 use Rattle.rooms.specs.Room.{header-byte}
 use Rattle.calls.specs.Outcome.{Outcome}
 use Rattle.calls.specs.Call.{outcome}
@@ -106,22 +107,9 @@ module _ (p d : List ℕ) (h : sound p ≡ true) (c : Checked p d) where
   owned = ⊎-elim (λ e. inl (refl, e)) (λ e. inr (lives o e)) (the.owner-nobody-or-live p d h c)
 
   sizes : Sizes q
-  sizes =
-      let z = S .sizes in
-      let low = the.made-low p d h c in
-      let long = E .long in
-      let w = low heap-word (omega arith) (spares-heap Jobs) (λ e. omega arith) in
-      record {
-        long = low size-word (omega arith) (spares-size Jobs) (λ e. omega arith) ∙ z .long ∙ sym long;
-        least = rw long (z .least);
-        most = rw long (z .most);
-        fours = rw long (z .fours);
-        heap-fours = rw w (z .heap-fours);
-        heap-least = rw w (z .heap-least);
-        heap-most = rw (w, long) (z .heap-most);
-        nought = low zero-word (omega arith) (spares-zero Jobs) (λ e. omega arith) ∙ z .nought;
-        last = elim [ Jobs ↦ rw (E .last) (the.tag-left p d h c) | Channels ↦ rw (other-table-last p q Jobs k (next-tag p Jobs) o (header-byte at) E there vacant Channels no-job) (z .last Channels) ];
-      }
+  sizes = sizes-kept p q (E .long) (λ i (x : Fixed i). let l = x .low in the.made-low p d h c i (omega arith) (x .spared Jobs) (x .no-tag Jobs))
+      (elim [ Jobs ↦ rw (E .last) (the.tag-left p d h c) | Channels ↦ rw (other-table-last p q Jobs k (next-tag p Jobs) o (header-byte at) E there vacant Channels no-job) (S .sizes .last Channels) ])
+      (S .sizes)
 
   ready-old : (j : ℕ) → j < positions Jobs → (j ≡ k → ⊥) → ready q j ≡ ready p j
   ready-old j l n = ready-same p q j (old j priority-field l (omega arith) n) (timeout-same p q j (old j timeout-field l (omega arith) n))

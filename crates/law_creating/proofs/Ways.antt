@@ -24,7 +24,7 @@ pub create-ways : (P : Outcome → Type 0) (p d : List ℕ) → ((k : ℤ) → P
     → (Checked p d → P (succeed (created p d) (job-registers (next-number p Jobs) (spot p Transient (job-length d)) d))) → P (outcome create p d)
 unfolding create
 create-ways P p d refused f = of-each-way create p d P refused (λ h. f (record {
-  place = h .1 .1 .0;
-  tagged = h .1 .1 .1 .0;
-  room = there-is-room-where-the-check-passes p Transient (job-length d) (h .1 .1 .1 .1 .0);
+  place = search;
+  tagged = search;
+  room = there-is-room-where-the-check-passes p Transient (job-length d) (search);
 }))

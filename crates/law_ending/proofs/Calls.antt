@@ -6,6 +6,7 @@ use mathlib.Core.Logic.{inl}
 use mathlib.Core.List.{List, []}
 use lib.IntN.{ℤ}
 use native.Mathlib.Omega.{arith}
+use lib.Dec.{eqb}
 use borrow.Author.Tests.{eqb-false, not-true}
 use Rattle.words.specs.Words.{word}
 use Rattle.picture.specs.Layout.{last-word}
@@ -35,7 +36,7 @@ module _ (p d : List ℕ) (P : Outcome → Type 0) (refused : (k : ℤ) → P (r
   of-removal : (still : List Check) → P (outcome (removal still) p d)
   unfolding removal
   of-removal still = of-each-way (removal still) p d P refused
-      (λ h. ends (live-is p Jobs (meant p (D1 d)) (job-that-passes-is-live p (meant p (D1 d)) (h .0)) .used) (eqb-false (asked p d) 0 (not-true _ (h .1 .0))))
+      (λ h. ends (live-is p Jobs (meant p (D1 d)) (job-that-passes-is-live p (meant p (D1 d)) (search)) .used) (eqb-false (asked p d) 0 (not-true (eqb (asked p d) 0) (search))))
 
   pub of-remove : P (outcome remove p d)
   unfolding remove outcome

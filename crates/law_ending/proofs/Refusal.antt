@@ -70,7 +70,7 @@ module _ (p d : List ℕ) where
   remove-verdict = key-is-the-verdict remove p d
 
   never-before : Never not-complete before
-  never-before = (job-check-gives-no-other not-complete (job-at p (meant p (D1 d))) (keys-differ invalid-job not-complete (λ e. omega arith)), ((λ _. keys-differ bad-parameter not-complete (λ e. omega arith)), tt))
+  never-before = search (job-check-gives-no-other, keys-differ invalid-job not-complete (λ e. omega arith), keys-differ bad-parameter not-complete (λ e. omega arith)) depth 12
 
   pub remove-is-refused-when-a-member-is-active : sound p ≡ true → live p Jobs (meant p (D1 d)) ≡ true → (asked p d ≡ 0 → ⊥) → ActiveMember p (asked p d) → outcome remove p d .key ≡ not-complete
   remove-is-refused-when-a-member-is-active s l n A =

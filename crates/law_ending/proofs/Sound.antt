@@ -13,7 +13,7 @@ use Rattle.words.specs.Words.{word}
 use Rattle.words.specs.Bits.{bit}
 use Rattle.words.specs.Each.{In}
 use Rattle.words.proofs.Tests.{both, false-true, lt-or-ge}
-use Rattle.picture.specs.Layout.{nobody, size-word, current-word, last-word, heap-word, zero-word, heap-base, positions, width, first-record, from, upto}
+use Rattle.picture.specs.Layout.{nobody, size-word, current-word, last-word, heap-word, heap-base, positions, width, first-record, from, upto}
 use Rattle.picture.specs.Records.{field, number-field, owner-field, base-field, priority-field, accumulated-field, timeout-field, wait-field, key-field, ending-field, number, owner, base, priority, accumulated, timeout, waited-for, ending, used, ready}
 use Rattle.picture.specs.Numbers.{tag, position, live}
 use Rattle.picture.specs.declared.Table.{Table}
@@ -32,10 +32,11 @@ use Rattle.sound_matching.proofs.Matched.{Matched}
 use Rattle.sound_records.specs.Rules.{may-be-unowned}
 use Rattle.picture.specs.Layout.{greatest-priority, hold}
 use Rattle.picture.proofs.Timeout.{Timely, timely-zero, timeout-same, timeout-zero, ready-has, ready-by}
-use Rattle.picture.proofs.Members.{spares-size, spares-heap, spares-zero, spares-last}
+use Rattle.picture.proofs.Members.{spares-size, spares-heap, spares-last}
 use Rattle.sound.specs.Sound.{sound}
 use Rattle.sound_facts.proofs.Sound.{Sizes, Queue, Waits, Owned, Entries, Jobs-fine, Channels-fine, Fits, Tiled, Current, Sound}
 use Rattle.sound_facts.proofs.View.{has-block-used, view, sound-again}
+use Rattle.sound_facts.proofs.Sizes.{Fixed, sizes-kept}
 use Rattle.freeing.specs.Sweep.{named, goes}
 use Rattle.tree.specs.Tree.{tree}
 use Rattle.law_owners.proofs.Owners.{owners-of}
@@ -119,22 +120,10 @@ module _ (p : List ℕ) (S : Sound p) (t key : ℕ) (top : used p Jobs t ≡ tru
   same-last Jobs = T .head (last-word Jobs) (omega arith) (λ z. omega arith) (λ t. spares-last t Jobs)
   same-last Channels = T .head (last-word Channels) (omega arith) (λ z. omega arith) (λ t. spares-last t Channels)
 
-  sizes-kept : Sizes q
-  sizes-kept =
-      let z = S .sizes in
-      let l = T .long in
-      let h = T .head heap-word (omega arith) (λ z. omega arith) (λ t. spares-heap t) in
-      record {
-        long = T .head size-word (omega arith) (λ z. omega arith) (λ t. spares-size t) ∙ z .long ∙ sym l;
-        least = rw l (z .least);
-        most = rw l (z .most);
-        fours = rw l (z .fours);
-        heap-fours = rw h (z .heap-fours);
-        heap-least = rw h (z .heap-least);
-        heap-most = rw (h, l) (z .heap-most);
-        nought = T .head zero-word (omega arith) (λ z. omega arith) (λ t. spares-zero t) ∙ z .nought;
-        last = elim [ Jobs ↦ rw (same-last Jobs) (z .last Jobs) | Channels ↦ rw (same-last Channels) (z .last Channels) ];
-      }
+  sizes-again : Sizes q
+  sizes-again = sizes-kept p q (T .long) (λ i (x : Fixed i). let l = x .low in T .head i (omega arith) (x .not-current) (x .spared))
+      (elim [ Jobs ↦ rw (same-last Jobs) (S .sizes .last Jobs) | Channels ↦ rw (same-last Channels) (S .sizes .last Channels) ])
+      (S .sizes)
 
   has-block-was : (t′ : Table) (k : ℕ) → has-block q t′ k ≡ true → has-block p t′ k ≡ true
   unfolding has-block
@@ -399,7 +388,7 @@ module _ (p : List ℕ) (S : Sound p) (t key : ℕ) (top : used p Jobs t ≡ tru
 
   pub ended-facts : Sound (ended p t key)
   unfolding q
-  ended-facts = record { sizes = sizes-kept; jobs = jobs-kept; channels = channels-kept; tiled = tiled-kept; matched = matched-kept; current = inl (T .current) }
+  ended-facts = record { sizes = sizes-again; jobs = jobs-kept; channels = channels-kept; tiled = tiled-kept; matched = matched-kept; current = inl (T .current) }
 
   -- no entry is new
   pub ended-is-no-newer : (t′ : Table) (n : ℕ) → live (ended p t key) t′ n ≡ true → live p t′ n ≡ true

@@ -3,15 +3,13 @@ use Prim.Native.Nat.{ℕ, _-_, _≤_, _<_}
 use mathlib.Core.Path.{_≡_, refl, ap}
 use mathlib.Core.Bool.{Bool, true}
 use mathlib.Core.Logic.{⊎-elim, _⊎_, inl, inr}
-use mathlib.Core.List.{List, [], _∷_}
+use mathlib.Core.List.{List}
 use native.Mathlib.Omega.{arith}
 use lib.ListN.{length}
 use lib.Seq.{getD-set-same}
 use Rattle.words.specs.Each.{In}
 use Rattle.words.proofs.Words.{length-clear}
 use Rattle.picture.specs.Layout.{from, upto}
-use Rattle.picture.specs.Numbers.{job-at}
-use Rattle.picture.specs.Keys.{invalid-job, out-of-memory, bad-parameter}
 use Rattle.picture.specs.declared.Area.the-variants.{Heap, Transient}
 use Rattle.blocks.specs.Header.{size, free}
 use Rattle.blocks.specs.Walk.{blocks}
@@ -20,20 +18,18 @@ use Rattle.placing.proofs.Longest.{no-free-block-is-longer, the-longest-is-a-fr
 use Rattle.rooms.specs.Room.{block-length}
 use Rattle.rooms.proofs.Room.{Without}
 use Rattle.calls.specs.Call.{outcome}
-use Rattle.calls.specs.Registers.{D1, D2, cleared, meant}
-use Rattle.calls.specs.Found.{job-check}
-use Rattle.calls.proofs.Call.{keys-differ}
+use Rattle.calls.specs.Registers.{D1, cleared}
 use Rattle.calls.proofs.Found.{job-check-gives-no-other}
-use Rattle.law_blocks.proofs.NoRoom.{NoRoomExactly, room-is-the-last-check}
-use Rattle.memory.specs.Memory.{longest-room, length-good, taken-length, take}
+use Rattle.calls.proofs.Call.{but-last}
+use Rattle.law_blocks.proofs.NoRoom.{not-memory, NoRoomExactly, room-is-the-last-check}
+use Rattle.memory.specs.Memory.{longest-room, taken-length, take}
 
 -- $18 answers -3 exactly when its length and its owner are good and every free block of the heap is shorter than the block asked for
 pub take-is-out-of-memory-exactly-when-the-heap-is-full : (p d : List ℕ)
-    → NoRoomExactly (outcome take p d) ((length-good (D1 d), bad-parameter) ∷ job-check (job-at p (meant p (D2 d))) ∷ []) p Heap (taken-length d)
+    → NoRoomExactly (outcome take p d) (but-last (take p d .checks)) p Heap (taken-length d)
 unfolding take
 take-is-out-of-memory-exactly-when-the-heap-is-full p d =
-    room-is-the-last-check take p d _ Heap (taken-length d) refl
-    ((λ _. keys-differ bad-parameter out-of-memory (λ e. omega arith)), (job-check-gives-no-other out-of-memory (job-at p (meant p (D2 d))) (keys-differ invalid-job out-of-memory (λ e. omega arith)), tt))
+    room-is-the-last-check take p d Heap (taken-length d) refl (search (not-memory, job-check-gives-no-other) depth 12)
 
 -- what $6 answers is the room of a free block, and no free block has more
 module _ (p d : List ℕ) (eight : 1 < length d) where

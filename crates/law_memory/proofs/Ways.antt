@@ -3,18 +3,17 @@ use Prim.Native.Nat.{ℕ}
 use mathlib.Core.Path.{_≡_}
 use mathlib.Core.Bool.{true}
 use mathlib.Core.List.{List}
-use native.Mathlib.Omega.{arith}
 use lib.IntN.{ℤ}
-use Rattle.picture.specs.Numbers.{live, job-at}
-use Rattle.picture.specs.Keys.{done, invalid-job, out-of-memory, bad-parameter}
+use Rattle.picture.specs.Numbers.{live}
+use Rattle.picture.specs.Keys.{done}
 use Rattle.picture.specs.declared.Table.the-variants.{Jobs}
 use Rattle.picture.specs.declared.Area.the-variants.{Heap}
-use Rattle.rooms.specs.Room.{spot, room-at}
+use Rattle.rooms.specs.Room.{spot}
 use Rattle.rooms.proofs.Room.{has-room, there-is-room-where-the-check-passes, room-check-gives-no-other}
 use Rattle.calls.specs.Outcome.{Outcome, refuse, succeed}
 use Rattle.calls.specs.Call.{outcome}
 use Rattle.calls.specs.Registers.{D1, D2, A0, cleared, meant}
-use Rattle.calls.proofs.Call.{Passed, success, of-each-way, keys-differ}
+use Rattle.calls.proofs.Call.{Passed, success, of-each-way, refusals}
 use Rattle.calls.proofs.Found.{job-that-passes-is-live, job-check-gives-no-other}
 use Rattle.memory.specs.Memory.{length-good, taken-length, room-registers, taken, take, is-plain-room, given-back, give-back}
 use Rattle.law_blocks.proofs.Cases.{where-done}
@@ -26,21 +25,14 @@ module _ (P : Outcome → Type 0) (p d : List ℕ) where
 
   take-passed : Taken → Passed (take p d .checks) → P (success (take p d))
   unfolding take
-  take-passed f h = f (h .0) (job-that-passes-is-live p (meant p (D2 d)) (h .1 .0)) (there-is-room-where-the-check-passes p Heap (taken-length d) (h .1 .1 .0))
+  take-passed f h = f (search) (job-that-passes-is-live p (meant p (D2 d)) (search)) (there-is-room-where-the-check-passes p Heap (taken-length d) (search))
 
   pub take-ways : ((k : ℤ) → P (refuse k p d)) → Taken → P (outcome take p d)
   take-ways refused f = of-each-way take p d P refused (take-passed f)
 
   pub take-where-done : Taken → outcome take p d .key ≡ done → P (outcome take p d)
   unfolding take
-  take-where-done f = where-done P take p d (
-    (λ _. keys-differ bad-parameter done (λ e. omega arith)),
-    (
-      job-check-gives-no-other done (job-at p (meant p (D2 d))) (keys-differ invalid-job done (λ e. omega arith)),
-      (room-check-gives-no-other done (room-at p Heap (taken-length d)) (keys-differ out-of-memory done (λ e. omega arith)), tt),
-    ),
-  )
-      (take-passed f)
+  take-where-done f = where-done P take p d (search (refusals, job-check-gives-no-other, room-check-gives-no-other) depth 12) (take-passed f)
 
   -- what $19 does where its check passes
   abbrev GivenBack : Type 0
@@ -48,8 +40,8 @@ module _ (P : Outcome → Type 0) (p d : List ℕ) where
 
   pub give-back-ways : ((k : ℤ) → P (refuse k p d)) → GivenBack → P (outcome give-back p d)
   unfolding give-back
-  give-back-ways refused f = of-each-way give-back p d P refused (λ h. f (h .0))
+  give-back-ways refused f = of-each-way give-back p d P refused (λ h. f (search))
 
   pub give-back-where-done : GivenBack → outcome give-back p d .key ≡ done → P (outcome give-back p d)
   unfolding give-back
-  give-back-where-done f = where-done P give-back p d ((λ _. keys-differ bad-parameter done (λ e. omega arith)), tt) (λ h. f (h .0))
+  give-back-where-done f = where-done P give-back p d (search refusals depth 12) (λ h. f (search))

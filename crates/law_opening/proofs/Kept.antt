@@ -10,14 +10,14 @@ use borrow.Author.Tests.{le-leb, eqb-true}
 use Rattle.words.specs.Words.{word}
 use Rattle.words.specs.Each.{In}
 use Rattle.words.proofs.Tests.{both, false-true}
-use Rattle.picture.specs.Layout.{heap-word, size-word, zero-word, last-word, positions, width, first-record}
+use Rattle.picture.specs.Layout.{last-word, positions, width, first-record}
 use Rattle.picture.specs.Records.{slot, field, number, owner, base, ending, used, base-field, owner-field, ending-field, number-field, members}
 use Rattle.picture.specs.Numbers.{live}
 use Rattle.picture.specs.declared.Table.{Table}
 use Rattle.picture.specs.declared.Table.the-variants.{Jobs, Channels}
 use Rattle.picture.specs.declared.Area.the-variants.{Heap, Transient}
 use Rattle.picture.proofs.Records.{used-below}
-use Rattle.picture.proofs.Members.{Spares, holds-low, spares-size, spares-heap, spares-zero, members-same}
+use Rattle.picture.proofs.Members.{Spares, holds-low, members-same}
 use Rattle.blocks.specs.Header.{kind, kind-of, queue-kind, free}
 use Rattle.blocks.specs.Walk.{blocks}
 use Rattle.sound_matching.specs.Match.{first, area-of, has-block}
@@ -29,6 +29,8 @@ use Rattle.sound_facts.proofs.Sound.{Sizes, Entries, Jobs-fine, Channels-fine, 
 use Rattle.sound_facts.proofs.View.{sound-again, has-block-used}
 use Rattle.sound_facts.proofs.Same.{used-same, has-block-same, live-same, Lives, EntriesSame, entries-same}
 use Rattle.sound_facts.proofs.Ages.{Ages, ages-same, ages-then}
+use Rattle.sound_facts.proofs.Jobs.{JobsSame, jobs-live, jobs-age, jobs-kept, current-kept}
+use Rattle.sound_facts.proofs.Sizes.{Fixed, sizes-kept}
 use Rattle.rooms.specs.Room.{header-byte}
 use Rattle.rooms.proofs.Room.{has-room}
 use Rattle.entering.specs.Entry.{has-position, has-tag, next-tag}
@@ -39,7 +41,6 @@ use Rattle.law_blocks.proofs.Change.{change-tiled, change-standing, change-home
 use Rattle.law_blocks.proofs.Placing.{None, Only}
 use Rattle.law_blocks.proofs.Matching.{Still, Stands, Rematched, still-matched}
 use Rattle.opening.specs.Effects.{queue-bytes, opened}
-use Rattle.law_channels.proofs.Jobs.{JobsSame, jobs-live, jobs-age, jobs-kept, current-kept, sizes-kept}
 use Rattle.law_opening.proofs.Opened as the
 
 no-channel : Jobs ≡ Channels → ⊥
@@ -211,7 +212,7 @@ module _ (p : List ℕ) (o n : ℕ) (h : sound p ≡ true) (fp : has-position p 
 
   pub opened-sound : sound (opened p o n) ≡ true
   opened-sound = sound-again q (record {
-    sizes = sizes-kept p q (the.q-long p o n h fp tg rm) (low size-word (omega arith) (spares-size Channels) (λ x. omega arith)) (low heap-word (omega arith) (spares-heap Channels) (λ x. omega arith)) (low zero-word (omega arith) (spares-zero Channels) (λ x. omega arith))
+    sizes = sizes-kept p q (the.q-long p o n h fp tg rm) (λ i (x : Fixed i). let l = x .low in low i (omega arith) (x .spared Channels) (x .no-tag Channels))
         (elim [ Jobs ↦ rw (J .last) (S .sizes .last Jobs) | Channels ↦ rw (last-step, E .last) (the.tag-left p o n h fp tg rm) ])
         (S .sizes);
     jobs = jobs-kept p q J (S .jobs);

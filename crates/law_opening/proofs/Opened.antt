@@ -42,7 +42,7 @@ use Rattle.law_blocks.proofs.Tables.{TablesSame}
 use Rattle.law_blocks.proofs.Change.{Change, from-same, upto-same, change-then}
 use Rattle.law_blocks.proofs.Placing.{None, Only, placed-facts, placing-keeps-the-tables, placing-is-a-change}
 use Rattle.opening.specs.Effects.{queue-bytes, queued, channelled, opened}
-use Rattle.law_channels.proofs.Jobs.{JobsSame}
+use Rattle.sound_facts.proofs.Jobs.{JobsSame}
 use Rattle.law_opening.proofs.Room.{room-walk, change-room}
 
 units : (n : ℕ) → queue-bytes n % 16 ≡ 0

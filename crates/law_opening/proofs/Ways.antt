@@ -31,9 +31,9 @@ pub open-channel-ways : (P : Outcome → Type 0) (p d s : List ℕ) → ((k : �
     → P (outcome (open-channel s) p d)
 unfolding open-channel
 open-channel-ways P p d s refused f = of-each-way (open-channel s) p d P refused (λ h. f (record {
-  lives = job-that-passes-is-live p (meant p (D1 d)) (h .0);
-  fair = h .1 .0;
-  place = h .1 .1 .0;
-  tagged = h .1 .1 .1 .0;
-  room = there-is-room-where-the-check-passes p Heap (queue-bytes (number-in (named s))) (h .1 .1 .1 .1 .0);
+  lives = job-that-passes-is-live p (meant p (D1 d)) (search);
+  fair = search;
+  place = search;
+  tagged = search;
+  room = there-is-room-where-the-check-passes p Heap (queue-bytes (number-in (named s))) (search);
 }))

@@ -11,7 +11,7 @@ use Rattle.words.specs.Each.{every, any}
 use Rattle.words.proofs.Each.{every-at}
 use Rattle.words.proofs.Tests.{both, failing}
 use Rattle.picture.specs.Layout.{positions}
-use Rattle.picture.specs.Records.{slot, number, priority, accumulated, ready}
+use Rattle.picture.specs.Records.{slot, number, priority, accumulated, ready, with-members}
 use Rattle.picture.specs.declared.Table.the-variants.{Jobs}
 use Rattle.picture.specs.Layout.{greatest-priority}
 use Rattle.turns.specs.Fields.{set-each}
@@ -22,7 +22,7 @@ use Rattle.law_picks.proofs.Kept.{pick-keeps-orderly, pick-keeps-standi
 
 -- the desk bench's picks
 pub desk-bench : DeskBench
-unfolding set-up picks preferred chosen-below chosen-job accumulated-after turn-given picked set-each ready
+unfolding set-up with-members picks preferred chosen-below chosen-job accumulated-after turn-given picked set-each ready
 desk-bench = refl
 
 -- picks with nothing between them are a stretch for any job that stands at the first
@@ -74,5 +74,5 @@ waits g a b c d e =
 
 -- at priority 127 the last job of a full house waits 31 picks
 pub waits-31-picks-at-127 : WaitsAsLong 127
-unfolding set-up answers preferred chosen-below chosen-job accumulated-after turn-given picked picked-number set-each ready
+unfolding set-up with-members answers preferred chosen-below chosen-job accumulated-after turn-given picked picked-number set-each ready
 waits-31-picks-at-127 = waits 127 refl refl refl refl refl

@@ -5,6 +5,7 @@ use mathlib.Core.Path.{_≡_}
 use mathlib.Core.List.{List, [], _∷_, _++_, List·Memᴰ}
 use lib.ListN.{length, replicate}
 use Rattle.picture.specs.Layout.{nobody, positions, width, heap-base}
+use Rattle.picture.specs.Records.{with-members}
 use Rattle.picture.specs.Numbers.{number-of}
 use Rattle.picture.specs.declared.Table.the-variants.{Jobs, Channels}
 use Rattle.picture.specs.Layout.{greatest-priority}
@@ -21,9 +22,13 @@ bench-heap = 256
 abbrev pub bench-transient : ℕ
 bench-transient = bench-size - heap-base - bench-heap
 
+-- a job's record with this number, owner, base and priority, all else 0
+abbrev pub job-record : ℕ → ℕ → ℕ → ℕ → List ℕ
+job-record n o b g = n ∷ o ∷ b ∷ g ∷ replicate (width Jobs - 4) 0
+
 -- the record of a job at position k, made by job 0 as the k-th, with a block of 32 bytes, ready at priority g
 abbrev pub record-of : ℕ → ℕ → List ℕ
-record-of k g = number-of k k ∷ 0 ∷ (4 * (heap-base + bench-heap) + 32 * (k - 1)) ∷ g ∷ 0 ∷ 0 ∷ 0 ∷ 0 ∷ []
+record-of k g = job-record (number-of k k) 0 (4 * (heap-base + bench-heap) + 32 * (k - 1)) g
 
 -- the records of jobs at these priorities from position k on, and their blocks
 abbrev pub records : ℕ → List ℕ → List ℕ
@@ -35,16 +40,18 @@ job-blocks [] = []
 job-blocks (g ∷ l) = 32 ∷ 3 ∷ 0 ∷ 0 ∷ 0 ∷ 0 ∷ 0 ∷ 0 ∷ job-blocks l
 
 -- A sound picture: the fresh one, with job 0 at priority g, after job 0 made one more job for each of these priorities.
--- In order: longwords 0 to 7, the job records, the channel records, the heap (one free block), the transient area (job blocks, one free block).
+-- In order: longwords 0 to 7 but for the set of jobs, the job records, the channel records, the heap (one free block), the transient area (job blocks, one free block).
 unfoldable pub set-up : ℕ → List ℕ → List ℕ
-set-up g l =
-    (bench-size ∷ 0 ∷ length l ∷ 0 ∷ bench-heap ∷ (2 ^ (1 + length l) - 1) ∷ 0 ∷ 0 ∷ [])
-    ++ ((0 ∷ nobody ∷ 0 ∷ g ∷ 0 ∷ 0 ∷ 0 ∷ 0 ∷ [])
+set-up g l = with-members
+    ((bench-size ∷ 0 ∷ length l ∷ 0 ∷ bench-heap ∷ 0 ∷ 0 ∷ 0 ∷ [])
+    ++ (job-record 0 nobody 0 g
     ++ (records 1 l
     ++ (replicate (width Jobs * (positions Jobs - 1 - length l)) 0
     ++ (replicate (width Channels * positions Channels) 0
     ++ ((4 * bench-heap ∷ replicate (bench-heap - 1) 0)
-    ++ (job-blocks l ++ ((4 * bench-transient - 32 * length l) ∷ replicate (bench-transient - 1 - 8 * length l) 0)))))))
+    ++ (job-blocks l ++ ((4 * bench-transient - 32 * length l) ∷ replicate (bench-transient - 1 - 8 * length l) 0))))))))
+    Jobs
+    (2 ^ (1 + length l) - 1)
 
 -- n picks in a row: the positions picked, and the numbers answered
 unfoldable pub picks : ℕ → List ℕ → List ℕ

@@ -51,7 +51,7 @@ use Rattle.opening.specs.Effects.{opened}
 use Rattle.opening.specs.Calls.{open-channel}
 use Rattle.law_opening.proofs.Ways.{Checked, open-channel-ways}
 use Rattle.law_opening.proofs.Opened.{jobs-same}
-use Rattle.law_channels.proofs.Jobs.{JobsSame}
+use Rattle.sound_facts.proofs.Jobs.{JobsSame}
 use Rattle.law_picks.proofs.Quiet.{nothing-is-quiet}
 
 -- what is quiet: every accumulated of the table is kept

@@ -4,15 +4,14 @@ use mathlib.Core.Path.{_≡_}
 use mathlib.Core.Bool.{Bool, true, false, not}
 use mathlib.Core.List.{List}
 use lib.IntN.{ℤ}
-use native.Mathlib.Omega.{arith}
 use borrow.Author.Tests.{not-true}
-use Rattle.picture.specs.Keys.{done, not-complete, channel-not-open, bad-parameter}
-use Rattle.picture.specs.Numbers.{live, channel-at}
+use Rattle.picture.specs.Keys.{done, not-complete, channel-not-open}
+use Rattle.picture.specs.Numbers.{live}
 use Rattle.picture.specs.declared.Table.the-variants.{Channels}
 use Rattle.calls.specs.Outcome.{Outcome, refuse, succeed}
 use Rattle.calls.specs.Call.{outcome}
 use Rattle.calls.specs.Registers.{D1, A0, with-D1}
-use Rattle.calls.proofs.Call.{Passed, Never, success, of-each-way, keys-differ}
+use Rattle.calls.proofs.Call.{Passed, Never, success, of-each-way, refusals}
 use Rattle.calls.proofs.Found.{channel-that-passes-is-live, channel-check-gives-no-other, dead-channel-fails}
 use Rattle.law_blocks.proofs.Cases.{where-done}
 use Rattle.queues.specs.Ring.{waits, full, oldest-byte, fetched, sent}
@@ -21,10 +20,7 @@ use Rattle.channels.specs.Calls.{queue-named, at-channel, pending, fetch, send}
 
 -- the checks of trap 3 never give 0
 refusing : (p d : List ℕ) (b : Bool) → Never done (at-channel p d (b, not-complete))
-refusing p d b = (
-  channel-check-gives-no-other done (channel-at p (A0 d)) (keys-differ channel-not-open done (λ e. omega arith)),
-  ((λ _. keys-differ bad-parameter done (λ e. omega arith)), ((λ _. keys-differ not-complete done (λ e. omega arith)), tt)),
-)
+refusing p d b = search (refusals, channel-check-gives-no-other) depth 12
 
 module _ (P : Outcome → Type 0) (p d : List ℕ) where
   -- what each does where its checks pass
@@ -36,11 +32,11 @@ module _ (P : Outcome → Type 0) (p d : List ℕ) where
 
   fetch-passed : Fetched → Passed (fetch p d .checks) → P (success (fetch p d))
   unfolding fetch
-  fetch-passed f h = f (channel-that-passes-is-live p (A0 d) (h .0)) (h .1 .0) (h .1 .1 .0)
+  fetch-passed f h = f (channel-that-passes-is-live p (A0 d) (search)) (search) (search)
 
   send-passed : Sent → Passed (send p d .checks) → P (success (send p d))
   unfolding send
-  send-passed f h = f (channel-that-passes-is-live p (A0 d) (h .0)) (h .1 .0) (not-true _ (h .1 .1 .0))
+  send-passed f h = f (channel-that-passes-is-live p (A0 d) (search)) (search) (not-true (full p (queue-named p d)) (search))
 
   pub pending-ways : ((k : ℤ) → P (refuse k p d)) → P (succeed p d) → P (outcome pending p d)
   unfolding pending

@@ -9,7 +9,7 @@ use native.Mathlib.Omega.{arith}
 use lib.ListN.{length}
 use lib.Dec.{leb, eqb}
 use Rattle.words.specs.Words.{word}
-use Rattle.picture.specs.Layout.{nobody, size-word, current-word, last-word, heap-word, zero-word, heap-base, positions, width, first-record, from, upto}
+use Rattle.picture.specs.Layout.{nobody, size-word, current-word, last-word, heap-word, heap-base, positions, width, first-record, from, upto}
 use Rattle.picture.specs.Records.{slot, field, number, owner, base, priority, accumulated, timeout, waited-for, ending, used, ready, base-field, number-field, owner-field, accumulated-field, ending-field, priority-field, timeout-field, wait-field, members}
 use Rattle.picture.specs.Numbers.{tag, position, live}
 use Rattle.picture.proofs.Records.{used-below}
@@ -25,6 +25,7 @@ use Rattle.picture.proofs.Members.{Holds, holds-low, spares-current, members-sa
 use Rattle.sound_facts.proofs.Sound.{Sizes, Waits, Entries, Jobs-fine, Channels-fine, Tiled, Current, Sound}
 use Rattle.sound_facts.proofs.Same.{Lives, used-same, live-same, EntriesSame, entries-same, AreaSame, blocks-same, kind-same, holder-same, tiled-same, MatchSame, matched-same}
 use Rattle.sound_facts.proofs.Ages.{Ages, ages-same}
+use Rattle.sound_facts.proofs.Sizes.{Fixed, sizes-kept}
 
 -- the first of the fields that change: priority, accumulated, timeout, waited-for, delivered
 abbrev pub first-turning : ℕ
@@ -124,19 +125,7 @@ module _ (p q : List ℕ) (s : Steady p q) where
 
   module _ (S : Sound p) where
     sizes : Sizes q
-    sizes =
-        let z = S .sizes in
-        record {
-          long = steady-size ∙ z .long ∙ sym (s .long);
-          least = rw (s .long) (z .least);
-          most = rw (s .long) (z .most);
-          fours = rw (s .long) (z .fours);
-          heap-fours = rw steady-heap (z .heap-fours);
-          heap-least = rw steady-heap (z .heap-least);
-          heap-most = rw (steady-heap, s .long) (z .heap-most);
-          nought = s .before zero-word (omega arith) (λ e. omega arith) ∙ z .nought;
-          last = λ t. rw (last t) (z .last t);
-        }
+    sizes = sizes-kept p q (s .long) (λ i (x : Fixed i). s .before i (x .low) (x .not-current)) (λ t. rw (last t) (S .sizes .last t)) (S .sizes)
 
     was-used : (t : Table) (k : ℕ) → used q t k ≡ true → used p t k ≡ true
     was-used t k u = sym (steady-used t k) ∙ u

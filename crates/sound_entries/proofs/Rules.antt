@@ -8,7 +8,7 @@ use native.Mathlib.Omega.{arith}
 use lib.Dec.{leb, eqb}
 use borrow.Author.Tests.{eqb-true, eqb-false, ne-eqb, leb-true, le-leb, not-true}
 use Rattle.words.specs.Each.{every}
-use Rattle.words.proofs.Tests.{both, either, failing, false-true, fails-right}
+use Rattle.words.proofs.Tests.{both, parts, both-true, either, failing, false-true, fails-right}
 use Rattle.words.proofs.Each.{every-at}
 use Rattle.picture.specs.Layout.{width}
 use Rattle.picture.specs.Records.{field, base, number, used}
@@ -72,14 +72,11 @@ module _ (p : List ℕ) (t : Table) (k : ℕ) where
   used-entry : used p t k ≡ true → entry-fine p t k ≡ true → tag-once p t k ≡ true → Entry p t k
   unfolding entry-fine blank
   used-entry u h o =
-      let a = both _ _ h in
-      let b = both _ _ (a .1) in
-      let c = both _ _ (b .1) in
-      record { unused = rw u; place = a .0; tagged = b .0; once = o; owner = c .1; given = c .0 }
+      record { unused = rw u; place = search parts; tagged = search parts; once = o; owner = search parts; given = search parts }
 
   entry-used : Entry p t k → entry-fine p t k ≡ true
   unfolding entry-fine
-  entry-used e = rw (e .place, e .tagged, e .given, e .owner)
+  entry-used e = search both-true depth 12
 
   -- not in use: zeros keep them all
   unused-entry : used p t k ≡ false → zeros ≡ true → Entry p t k
@@ -104,21 +101,11 @@ at-least k h = let z = eqb-false k 0 (not-true _ h) in omega arith
 module _ (p : List ℕ) (k : ℕ) where
   live-job : used p Jobs k ≡ true → live-fine p Jobs k ≡ true → tag-once p Jobs k ≡ true → Job p k
   unfolding live-fine zero-fine
-  live-job u l o =
-      let a = both _ _ l in
-      let b = both _ _ (a .1) in
-      let z = both _ _ (b .0) in
-      let y = both _ _ (z .1) in
-      let c = both _ _ (b .1) in
-      let d = both _ _ (c .1) in
-      let e = both _ _ (d .1) in
-      let f = both _ _ (e .1) in
-      let g = both _ _ (f .1) in
-      record { entry = used-entry p Jobs k u (a .0) o; nought = z .0; base = y .0; unowned = y .1; priority = c .0; accumulated = d .0; timeout = e .0; older = f .0; waits = g .0; idle = g .1 }
+  live-job u l o = search (parts, used-entry p Jobs k) depth 16
 
   job-live : Job p k → live-fine p Jobs k ≡ true
   unfolding live-fine zero-fine
-  job-live j = rw (entry-used p Jobs k (j .entry), j .nought, j .base, j .unowned, j .priority, j .accumulated, j .timeout, j .older, j .waits, j .idle)
+  job-live j = search (both-true, entry-used p Jobs k) depth 16
 
   blank-job : used p Jobs k ≡ false → 1 ≤ k → zeros p Jobs k ≡ true → Job p k
   unfolding zero-exists zero-base zero-unowned priority-within accumulated-within timeout-within owner-older wait-allowed idle-zero

@@ -3,3 +3,5 @@ pub mod Sound
 pub mod View
 pub mod Same
 pub mod Ages
+pub mod Jobs
+pub mod Sizes

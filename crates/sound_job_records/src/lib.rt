@@ -64,7 +64,7 @@ pub fn is_job_zero(p: &[u32], k: usize) -> bool
         & (field_of(p, Table::Jobs, k, picture::BASE) == 0)
         & (field_of(p, Table::Jobs, k, picture::PRIORITY) == 0)
         & (field_of(p, Table::Jobs, k, picture::ACCUMULATED) == 0)
-        & (timeout_of(p, k) == 0)
+        & (field_of(p, Table::Jobs, k, picture::TIMEOUT) == 0)
         & (field_of(p, Table::Jobs, k, picture::WAIT) == 0)
         & (field_of(p, Table::Jobs, k, picture::KEY) == 0)
 }

@@ -3,11 +3,10 @@ use Prim.Native.Nat.{ℕ}
 use mathlib.Core.Path.{_≡_}
 use mathlib.Core.Bool.{true}
 use mathlib.Core.List.{List}
-use Rattle.words.proofs.Tests.{both}
+use Rattle.words.proofs.Tests.{parts, both-true}
 use Rattle.picture.specs.declared.Table.{Table}
 use Rattle.picture.specs.declared.Table.the-variants.{Jobs, Channels}
-use Rattle.sound_whole.specs.Whole.{size-stated, seven-zero, heap-stated, last-within, current-ready}
-use Rattle.sound_whole.specs.Whole.{whole-fine}
+use Rattle.sound_whole.specs.Whole.{size-stated, seven-zero, heap-stated, last-within, current-ready, whole-fine}
 
 module _ (p : List ℕ) where
   pub record Whole : Type 0 where
@@ -17,16 +16,14 @@ module _ (p : List ℕ) where
     pub last : (t : Table) → last-within p t ≡ true
     pub current : current-ready p ≡ true
 
+  of-both : last-within p Jobs ≡ true → last-within p Channels ≡ true → (t : Table) → last-within p t ≡ true
+  of-both a b Jobs = a
+  of-both a b Channels = b
+
   pub whole-is : whole-fine p ≡ true → Whole
   unfolding whole-fine
-  whole-is h =
-      let a = both _ _ h in
-      let b = both _ _ (a .1) in
-      let c = both _ _ (b .1) in
-      let d = both _ _ (c .1) in
-      let e = both _ _ (d .1) in
-      record { size = a .0; nought = b .0; heap = c .0; last = elim [ Jobs ↦ d .0 | Channels ↦ e .0 ]; current = e .1 }
+  whole-is h = search (parts, of-both) depth 12
 
   pub is-whole : Whole → whole-fine p ≡ true
   unfolding whole-fine
-  is-whole w = rw (w .size, w .nought, w .heap, w .last Jobs, w .last Channels, w .current)
+  is-whole w = search (both-true, w .last) depth 12

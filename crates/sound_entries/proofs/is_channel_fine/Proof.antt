@@ -1,6 +1,5 @@
 use Rattle.sound_entries.specs.Entries.{live-fine}
-use borrow.Author.Tests.{not-true, not-false}
-use mathlib.Core.Path.{sym, _∙_}
+use Rattle.words.proofs.Tests.{fails, passes-here}
 use borrow.Author.Needs.{needs}
 use Rattle.sound_entries.proofs.is_channel_fine.Statement.{statement}
 use Rattle.sound_entries.proofs.is_channel_fine.Tie as tie
@@ -14,16 +13,14 @@ is-entry-fine-requires c κs = search needs
 
 returns : tie.Need-returns
 unfolding live-fine
-returns c = rw (sym (c .before .is-entry-fine .ensures) ∙ not-true _ (c .if1 .taken))
+returns c = search fails depth 24 fits 4000
 
 ends-in-one-requires : tie.Need-ends-in-one-requires
 ends-in-one-requires c κs = search needs
 
 returns-2 : tie.Need-returns-2
 unfolding live-fine
-returns-2 c =
-    let z = c .before in
-    rw (sym (z .before .is-entry-fine .ensures) ∙ not-false _ (z .if1 .left), c .ends-in-one .ensures)
+returns-2 c = search passes-here depth 24 fits 4000
 
 pub is-channel-fine-spec : {M : Type 1} → statement M
 is-channel-fine-spec =

@@ -1,6 +1,5 @@
 use Rattle.sound_entries.specs.Entries.{entry-fine}
-use borrow.Author.Tests.{not-true, not-false}
-use mathlib.Core.Path.{sym, _∙_}
+use Rattle.words.proofs.Tests.{fails, passes-here}
 use borrow.Author.Needs.{needs}
 use Rattle.sound_entries.proofs.is_entry_fine.Statement.{statement}
 use Rattle.sound_entries.proofs.is_entry_fine.Tie as tie
@@ -16,37 +15,28 @@ is-positioned-requires c κs = search needs
 
 returns : tie.Need-returns
 unfolding entry-fine
-returns c = rw (sym (c .before .is-positioned .ensures) ∙ not-true _ (c .if1 .taken))
+returns c = search fails depth 24 fits 4000
 
 tag-within-requires : tie.Need-tag-within-requires
 tag-within-requires c κs = search needs
 
 returns-2 : tie.Need-returns-2
 unfolding entry-fine
-returns-2 c =
-    let z = c .before .before in
-    rw (sym (z .before .is-positioned .ensures) ∙ not-false _ (z .if1 .left), sym (c .before .tag-within .ensures) ∙ not-true _ (c .if2 .taken))
+returns-2 c = search fails depth 24 fits 4000
 
 tag-given-requires : tie.Need-tag-given-requires
 tag-given-requires c κs = search needs
 
 returns-3 : tie.Need-returns-3
 unfolding entry-fine
-returns-3 c =
-    let z = c .before .before in
-    let y = z .before .before in
-    rw (sym (y .before .is-positioned .ensures) ∙ not-false _ (y .if1 .left), sym (z .before .tag-within .ensures) ∙ not-false _ (z .if2 .left), sym (c .before .tag-given .ensures) ∙ not-true _ (c .if3 .taken))
+returns-3 c = search fails depth 24 fits 4000
 
 owner-live-requires : tie.Need-owner-live-requires
 owner-live-requires c κs = search needs
 
 returns-4 : tie.Need-returns-4
 unfolding entry-fine
-returns-4 c =
-    let z = c .before in
-    let y = z .before .before in
-    let x = y .before .before in
-    rw (sym (x .before .is-positioned .ensures) ∙ not-false _ (x .if1 .left), sym (y .before .tag-within .ensures) ∙ not-false _ (y .if2 .left), sym (z .before .tag-given .ensures) ∙ not-false _ (z .if3 .left), c .owner-live .ensures)
+returns-4 c = search passes-here depth 24 fits 4000
 
 pub is-entry-fine-spec : {M : Type 1} → statement M
 is-entry-fine-spec =

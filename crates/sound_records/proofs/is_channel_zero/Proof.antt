@@ -1,3 +1,4 @@
+use Rattle.words.proofs.Tests.{same-tests}
 use borrow.Author.Needs.{needs}
 use Rattle.sound_records.proofs.is_channel_zero.Statement.{statement}
 use Rattle.sound_records.proofs.is_channel_zero.Tie as tie
@@ -18,7 +19,7 @@ field-of-requires-4 : tie.Need-field-of-requires-4
 field-of-requires-4 c κs = search needs
 
 returns : tie.Need-returns
-returns c = rw (c .field-of4 .ensures, c .before .field-of3 .ensures, c .before .before .field-of2 .ensures, c .before .before .before .field-of .ensures)
+returns c = search same-tests depth 24 fits 4000
 
 pub is-channel-zero-spec : {M : Type 1} → statement M
 is-channel-zero-spec =

@@ -1,3 +1,4 @@
+use Rattle.words.proofs.Tests.{same-tests}
 use Rattle.sound_whole.specs.Whole.{whole-fine}
 use borrow.Author.Needs.{needs}
 use Rattle.sound_whole.proofs.is_whole_fine.Statement.{statement}
@@ -30,7 +31,7 @@ current-ready-requires c κs = search needs
 
 returns : tie.Need-returns
 unfolding whole-fine
-returns c = rw (c .current-ready .ensures, c .before .last-within2 .ensures, c .before .before .last-within .ensures, c .before .before .before .heap-stated .ensures, c .before .before .before .before .seven-zero .ensures, c .before .before .before .before .before .size-stated .ensures)
+returns c = search same-tests depth 24 fits 4000
 
 pub is-whole-fine-spec : {M : Type 1} → statement M
 is-whole-fine-spec =

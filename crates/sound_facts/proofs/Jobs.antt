@@ -1,23 +1,21 @@
--- A call that leaves the jobs' records alone keeps what soundness says of them.
-use Prim.Native.Nat.{ℕ, _+_, _%_, _≤_, _<_}
-use mathlib.Core.Path.{_≡_, refl, sym, ap, _∙_, subst}
-use mathlib.Core.Bool.{true, false}
+-- What leaves the jobs' records alone keeps what soundness says of them.
+use Prim.Native.Nat.{ℕ, _<_}
+use mathlib.Core.Path.{_≡_, sym, _∙_, subst}
+use mathlib.Core.Bool.{true}
 use mathlib.Core.Logic.{⊎-elim, _⊎_, inl, inr}
 use mathlib.Core.List.{List}
-use lib.ListN.{length}
 use native.Mathlib.Omega.{arith}
 use Rattle.words.specs.Words.{word}
-use Rattle.picture.specs.Layout.{size-word, current-word, last-word, greatest-tag, heap-word, zero-word, positions, width}
+use Rattle.picture.specs.Layout.{current-word, last-word, positions, width}
 use Rattle.picture.specs.Records.{field, waited-for, used, ready, accumulated-field, base-field, number-field, owner-field, priority-field, timeout-field, wait-field, members}
 use Rattle.picture.specs.Numbers.{position, live}
-use Rattle.picture.specs.declared.Table.{Table}
 use Rattle.picture.specs.declared.Table.the-variants.{Jobs}
 use Rattle.picture.proofs.Timeout.{Timely, timeout-same, ready-same}
 use Rattle.picture.proofs.Records.{used-below}
 use Rattle.picture.proofs.Numbers.{Live, live-is}
-use Rattle.sound_facts.proofs.Sound.{Sizes, Waits, Entries, Jobs-fine, Current}
-use Rattle.sound_facts.proofs.Same.{used-same, has-block-same, live-same, Lives, EntriesSame, entries-same}
+use Rattle.sound_facts.proofs.Sound.{Waits, Entries, Jobs-fine, Current}
+use Rattle.sound_facts.proofs.Same.{used-same, live-same, Lives, EntriesSame, entries-same}
 use Rattle.sound_facts.proofs.Ages.{Ages, ages-same}
 
 pub record JobsSame (p q : List ℕ) : Type 0 where
   pub fields : (k f : ℕ) → k < positions Jobs → f < width Jobs → field q Jobs k f ≡ field p Jobs k f
@@ -73,18 +71,3 @@ module _ (p q : List ℕ) (s : JobsSame p q) where
       let l = used-below p Jobs (position (word p current-word)) (live-is p Jobs (word p current-word) (e .0) .used) in
       inr (rw w (jobs-live (word p current-word) (e .0), ready-stays (position (word p current-word)) l ∙ e .1)))
       h
-
--- the longwords of the sizes
-pub sizes-kept : (p q : List ℕ) → length q ≡ length p → word q size-word ≡ word p size-word → word q heap-word ≡ word p heap-word → word q zero-word ≡ word p zero-word
-    → ((t : Table) → word q (last-word t) ≤ greatest-tag) → Sizes p → Sizes q
-sizes-kept p q long n h o last z = record {
-  long = n ∙ z .long ∙ sym long;
-  least = rw long (z .least);
-  most = rw long (z .most);
-  fours = rw long (z .fours);
-  heap-fours = rw h (z .heap-fours);
-  heap-least = rw h (z .heap-least);
-  heap-most = rw (h, long) (z .heap-most);
-  nought = o ∙ z .nought;
-  last = last;
-}
