@@ -27,22 +27,22 @@ const SUSPENDED: u32 = 0xFF00_0000;
 // The bytes of a header.
 const HEADER_BYTES: u32 = 16;
 
-// The job at position k is a member of the mask, has a greater tag than `tag`, and a smaller one than the job n; 0 is none.
-fn is_nearer(p: &[u32], mask: u64, tag: u32, n: u32, k: usize) -> bool
+// The job at position k is a member of the set, has a greater tag than `tag`, and a smaller one than the job n; 0 is none.
+fn is_nearer(p: &[u32], set: u64, tag: u32, n: u32, k: usize) -> bool
     requires { ⌜ k < positions Jobs ⌝ }
-    ensures { λ r. ⌜ r ≡ nearer (now (p .entry)) mask tag n k ⌝ }
+    ensures { λ r. ⌜ r ≡ nearer (now (p .entry)) set tag n k ⌝ }
 {
     let own = picture::tag_of(field_of(p, Table::Jobs, k, picture::NUMBER));
-    masks::is_member(mask, k) & ((tag < own) & ((n == 0) | (own < picture::tag_of(n))))
+    masks::is_member(set, k) & ((tag < own) & ((n == 0) | (own < picture::tag_of(n))))
 }
 
-// The number of the member of the mask with the next tag after `tag`, or 0.
-pub fn next_member(p: &[u32], mask: u64, tag: u32) -> u32
-    ensures { λ r. ⌜ r ≡ nextMember (now (p .entry)) mask tag ⌝ }
+// The number of the member of the set with the next tag after `tag`, or 0.
+pub fn next_member(p: &[u32], set: u64, tag: u32) -> u32
+    ensures { λ r. ⌜ r ≡ nextMember (now (p .entry)) set tag ⌝ }
 {
     let mut n: u32 = 0;
     for k in 0..JOBS {
-        if is_nearer(p, mask, tag, n, k) {
+        if is_nearer(p, set, tag, n, k) {
             n = field_of(p, Table::Jobs, k, picture::NUMBER);
         }
     }

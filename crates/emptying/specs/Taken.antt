@@ -1,4 +1,4 @@
--- Taking entries out of the tables: the jobs of a mask m, which holds the positions of a tree, and their channels.
+-- Taking entries out of the tables: the jobs of a set m, the positions of a tree, and their channels.
 use Prim.Native.Nat.{ℕ}
 use mathlib.Core.Bool.{Bool, _&&_, not, cond}
 use mathlib.Core.List.{List}
@@ -23,11 +23,11 @@ waits p m k = used p Jobs k && (not (bit m k) && (not (eqb (waited-for p k) 0) &
 unfoldable pub woken : ℕ → ℕ → List ℕ → ℕ → List ℕ
 woken m key p k = cond (waits p m k) (with-key (with-wait (with-timeout p k (pos 0)) k 0) k key) p
 
--- the record of position k is zero if k is in the mask
+-- the record of position k is zero if k is in the set
 unfoldable pub blanked : Table → ℕ → List ℕ → ℕ → List ℕ
 blanked t m p k = cond (bit m k) (clear (width t) p (slot t k)) p
 
--- the table without the entries of the mask m
+-- the table without the entries of the set m
 unfoldable pub emptied : List ℕ → Table → ℕ → List ℕ
 emptied p t m = let q = each (blanked t m) (positions t) p in with-members q t (without (members q t) m)
 

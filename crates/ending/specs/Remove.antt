@@ -16,11 +16,11 @@ use Rattle.calls.specs.Registers.{D1, D3, cleared, meant}
 use Rattle.tree.specs.Tree.{tree}
 use Rattle.ending.specs.Ended.{ended}
 
--- the job at position k is no active member of the mask m
+-- the job at position k is no active member of the set m
 unfoldable pub at-rest : List ℕ → ℕ → ℕ → Bool
 at-rest p m k = not (bit m k && active p k)
 
--- no member of the mask m is active
+-- no member of the set m is active
 unfoldable pub inactive : List ℕ → ℕ → Bool
 inactive p m = every (at-rest p m) (positions Jobs)
 

@@ -27,27 +27,27 @@ ghost use Rattle.ending.specs.Remove.{inactive, remove, force-remove as 
 // No block of the heap starts here.
 const NO_BLOCK: usize = 0;
 
-// No member of the mask is active.
-pub fn is_inactive(p: &[u32], mask: u64) -> bool
-    ensures { λ r. ⌜ r ≡ inactive (now (p .entry)) mask ⌝ }
+// No member of the set is active.
+pub fn is_inactive(p: &[u32], set: u64) -> bool
+    ensures { λ r. ⌜ r ≡ inactive (now (p .entry)) set ⌝ }
 {
     for k in 0..JOBS {
-        if masks::is_member(mask, k) & picture::is_active(p, k) {
+        if masks::is_member(set, k) & picture::is_active(p, k) {
             return false;
         }
     }
     true
 }
 
-// The blocks of the jobs of the mask are given back, and the job block at `block`.
-pub fn return_blocks(p: &mut [u32], mask: u64, block: usize)
+// The blocks of the jobs of the set are given back, and the job block at `block`.
+pub fn return_blocks(p: &mut [u32], set: u64, block: usize)
     requires { ⌜ (upto (now p) Heap ≤ greatestSize) × (upto (now p) Transient ≤ greatestSize) ⌝ }
-    ensures { λ _. ⌜ now (p .exit) ≡ returned (now (p .entry)) mask block ⌝ }
+    ensures { λ _. ⌜ now (p .exit) ≡ returned (now (p .entry)) set block ⌝ }
 {
     let middle = picture::area_upto(p, Area::Heap);
     let end = picture::area_upto(p, Area::Transient);
-    sweep(p, picture::HEAP_BASE, middle, mask, NO_BLOCK);
-    sweep(p, middle, end, mask, block);
+    sweep(p, picture::HEAP_BASE, middle, set, NO_BLOCK);
+    sweep(p, middle, end, set, block);
 }
 
 // The tree of the job at position t is ended.
@@ -55,11 +55,11 @@ pub fn end_tree(p: &mut [u32], t: usize, key: u32)
     requires { ⌜ (t < positions Jobs) × ((upto (now p) Heap ≤ greatestSize) × (upto (now p) Transient ≤ greatestSize)) ⌝ }
     ensures { λ _. ⌜ now (p .exit) ≡ ended (now (p .entry)) t key ⌝ }
 {
-    let mask = tree_of(p, t);
-    let channels = channels_of(p, mask);
+    let tree = tree_of(p, t);
+    let channels = channels_of(p, tree);
     let block = (field_of(p, Table::Jobs, t, picture::BASE) / 4) as usize;
-    return_blocks(p, mask, block);
-    take_entries(p, mask, channels, key);
+    return_blocks(p, tree, block);
+    take_entries(p, tree, channels, key);
 }
 
 // Trap 1 $4: the job that D1 means and all its descendants go, if none of them is active.

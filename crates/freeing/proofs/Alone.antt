@@ -1,4 +1,4 @@
--- A sweep with no owner in the mask gives back one block.
+-- A sweep with no owner in the set gives back one block.
 use Prim.Native.Nat.{ℕ, _+_, _/_, _%_, _^_}
 use mathlib.Core.Path.{_≡_, refl, _∙_}
 use mathlib.Core.Bool.{Bool, true, false, _&&_}
@@ -30,7 +30,7 @@ none-named o = rw (no-bit (position o)) (go (ltb (position o) (positions Jobs)))
     go true = refl
     go false = refl
 
--- of the empty mask only the block at a goes
+-- of the empty set only the block at a goes
 pub the-block-at-a-goes : (p : List ℕ) (a : ℕ) → free p a ≡ false → goes p 0 a a ≡ true
 the-block-at-a-goes p a f = the-block-at-that-place-goes p 0 a a f refl
 

@@ -27,9 +27,9 @@ module _ (p : List ℕ) (m a i : ℕ) where
   unfolding goes
   the-block-at-that-place-goes f z = rw (f, eq-eqb i a z)
 
-  pub a-block-owned-by-the-mask-goes : free p i ≡ false → named m (holder p i) ≡ true → goes p m a i ≡ true
+  pub a-block-owned-by-the-set-goes : free p i ≡ false → named m (holder p i) ≡ true → goes p m a i ≡ true
   unfolding goes
-  a-block-owned-by-the-mask-goes f n = rw (f, n) (go (eqb i a))
+  a-block-owned-by-the-set-goes f n = rw (f, n) (go (eqb i a))
     where
       go : (b : Bool) → b || true ≡ true
       go true = refl

@@ -26,7 +26,7 @@ given-size p m a i = cond (goes p m a i) (size p i) 0
 abbrev pub given-bytes : List ℕ → ℕ → ℕ → ℕ → ℕ → ℕ
 given-bytes p base e m a = total (given-size p m a) (starts p base e)
 
--- q is p after a sweep of the area from base to e that gives back the block at a and those of the owners in the mask m
+-- q is p after a sweep of the area from base to e that gives back the block at a and those of the owners in the set m
 pub record Swept (p q : List ℕ) (base e m a : ℕ) : Type 0 where
   pub as-long : length q ≡ length p
   pub outside : (k : ℕ) → Outside base e k → word q k ≡ word p k

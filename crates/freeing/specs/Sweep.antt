@@ -18,7 +18,7 @@ use Rattle.headers.specs.Header.{header}
 abbrev pub named : ℕ → ℕ → Bool
 named m o = ltb (position o) (positions Jobs) && bit m (position o)
 
--- the block at i goes: it is in use, and it is the one at a or its owner's position is in the mask m
+-- the block at i goes: it is in use, and it is the one at a or its owner's position is in the set m
 unfoldable pub goes : List ℕ → ℕ → ℕ → ℕ → Bool
 goes p m a i = not (free p i) && (eqb i a || named m (holder p i))
 

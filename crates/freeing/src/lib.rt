@@ -1,5 +1,5 @@
 // Giving blocks of an area of a lent picture back: one sweep frees those that go and joins free neighbours.
-// A block goes if it is in use and is the one at `block`, or its owner's position is in `mask`.
+// A block goes if it is in use and is the one at `block`, or its owner's position is in `set`.
 use blocks::FREE;
 use blocks::HOLDER;
 use blocks::KIND;
@@ -13,31 +13,31 @@ ghost use Prim.Native.Nat.{_<_, _≤_};
 ghost use Rattle.picture.specs.Layout.{greatest-size as greatestSize};
 ghost use Rattle.freeing.specs.Sweep.{named, goes, freed, absorbed, joined, run, swept};
 
-// The position of the number `owner` is in the mask.
-pub fn is_named(mask: u64, owner: u32) -> bool
-    ensures { λ r. ⌜ r ≡ named mask owner ⌝ }
+// The position of the number `owner` is in the set.
+pub fn is_named(set: u64, owner: u32) -> bool
+    ensures { λ r. ⌜ r ≡ named set owner ⌝ }
 {
     let k = picture::position_of(owner);
     if k < JOBS {
-        return masks::is_member(mask, k);
+        return masks::is_member(set, k);
     }
     false
 }
 
 // The block at i goes.
-pub fn is_going(p: &[u32], mask: u64, block: usize, i: usize) -> bool
+pub fn is_going(p: &[u32], set: u64, block: usize, i: usize) -> bool
     requires { ⌜ i < greatestSize ⌝ }
-    ensures { λ r. ⌜ r ≡ goes (now (p .entry)) mask block i ⌝ }
+    ensures { λ r. ⌜ r ≡ goes (now (p .entry)) set block i ⌝ }
 {
-    (word(p, i + KIND) != FREE) & ((i == block) | is_named(mask, word(p, i + HOLDER)))
+    (word(p, i + KIND) != FREE) & ((i == block) | is_named(set, word(p, i + HOLDER)))
 }
 
 // The block at i is free if it goes.
-pub fn free_block(p: &mut [u32], mask: u64, block: usize, i: usize)
+pub fn free_block(p: &mut [u32], set: u64, block: usize, i: usize)
     requires { ⌜ i < greatestSize ⌝ }
-    ensures { λ _. ⌜ now (p .exit) ≡ freed (now (p .entry)) mask block i ⌝ }
+    ensures { λ _. ⌜ now (p .exit) ≡ freed (now (p .entry)) set block i ⌝ }
 {
-    if is_going(p, mask, block, i) {
+    if is_going(p, set, block, i) {
         let size = word(p, i);
         put_header(p, i, size, FREE, 0, 0);
     }
@@ -78,15 +78,15 @@ pub fn run_start(p: &[u32], e: usize, r: usize, i: usize) -> usize
 }
 
 // The blocks of the area from base to e that go are free, and free neighbours are one block.
-pub fn sweep(p: &mut [u32], base: usize, e: usize, mask: u64, block: usize)
+pub fn sweep(p: &mut [u32], base: usize, e: usize, set: u64, block: usize)
     requires { ⌜ e ≤ greatestSize ⌝ }
-    ensures { λ _. ⌜ now (p .exit) ≡ swept (now (p .entry)) base e mask block ⌝ }
+    ensures { λ _. ⌜ now (p .exit) ≡ swept (now (p .entry)) base e set block ⌝ }
 {
     let mut i = base;
     let mut r = e;
     while i < e {
         let end = next_block(p, i, e);
-        free_block(p, mask, block, i);
+        free_block(p, set, block, i);
         let s = run_start(p, e, r, i);
         join_block(p, e, r, i);
         r = s;

@@ -15,10 +15,10 @@ use Rattle.asking.proofs.is_nearer.Reads as is-nearer-reads
 use Rattle.picture.proofs.field_of.Reads as field-of-reads
 
 abbrev Inv-loop : tie.InvT-loop
-Inv-loop p mask tag n₀ k₀ n k = (k ≤ positions Jobs) × (n ≡ next-below k p mask tag)
+Inv-loop p set tag n₀ k₀ n k = (k ≤ positions Jobs) × (n ≡ next-below k p set tag)
 
 abbrev μ-loop : tie.MeasureT-loop
-μ-loop p mask tag n₀ k₀ n k = positions Jobs - k
+μ-loop p set tag n₀ k₀ n k = positions Jobs - k
 
 loop-holds : tie.Need-loop-holds Inv-loop μ-loop
 unfolding next-below

@@ -15,10 +15,10 @@ use Rattle.emptying.proofs.is_channel_going.Reads as is-channel-going-r
 use Rattle.masks.proofs.with_passing.Reads as with-passing-reads
 
 abbrev Inv-loop : tie.InvT-loop
-Inv-loop p mask channels₀ k₀ channels k = (k ≤ positions Channels) × (channels ≡ Rattle.masks.specs.Masks.mask (channel-goes p mask) k)
+Inv-loop p set channels₀ k₀ channels k = (k ≤ positions Channels) × (channels ≡ Rattle.masks.specs.Masks.mask (channel-goes p set) k)
 
 abbrev μ-loop : tie.MeasureT-loop
-μ-loop p mask channels₀ k₀ channels k = positions Channels - k
+μ-loop p set channels₀ k₀ channels k = positions Channels - k
 
 loop-holds : tie.Need-loop-holds Inv-loop μ-loop
 unfolding mask

@@ -17,10 +17,10 @@ use Rattle.picture.proofs.positions_of.Reads as positions-of-reads
 use Rattle.picture.proofs.put_members.Reads as put-members-reads
 
 abbrev Inv-loop : tie.InvT-loop
-Inv-loop p₀ t mask k₀ k-end p k = (k ≤ k-end) × ((length p ≡ length p₀) × (p ≡ each (blanked t mask) k p₀))
+Inv-loop p₀ t set k₀ k-end p k = (k ≤ k-end) × ((length p ≡ length p₀) × (p ≡ each (blanked t set) k p₀))
 
 abbrev μ-loop : tie.MeasureT-loop
-μ-loop p₀ t mask k₀ k-end p k = k-end - k
+μ-loop p₀ t set k₀ k-end p k = k-end - k
 
 positions-of-requires : tie.Need-positions-of-requires Inv-loop μ-loop
 positions-of-requires c κs = search needs

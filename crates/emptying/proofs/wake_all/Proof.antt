@@ -15,10 +15,10 @@ use Rattle.emptying.proofs.wake_all.Lts as lts
 use Rattle.emptying.proofs.wake.Reads as wake-reads
 
 abbrev Inv-loop : tie.InvT-loop
-Inv-loop p₀ mask key k₀ p k = (k ≤ positions Jobs) × ((length p ≡ length p₀) × (p ≡ each (woken mask key) k p₀))
+Inv-loop p₀ set key k₀ p k = (k ≤ positions Jobs) × ((length p ≡ length p₀) × (p ≡ each (woken set key) k p₀))
 
 abbrev μ-loop : tie.MeasureT-loop
-μ-loop p₀ mask key k₀ p k = positions Jobs - k
+μ-loop p₀ set key k₀ p k = positions Jobs - k
 
 loop-holds : tie.Need-loop-holds Inv-loop μ-loop
 unfolding each

@@ -19,10 +19,10 @@ use Rattle.picture.proofs.is_active.Reads as is-active-reads
 use Rattle.masks.proofs.is_member.Reads as is-member-reads
 
 abbrev Inv-loop : tie.InvT-loop
-Inv-loop p mask k₀ k = (k ≤ positions Jobs) × (every (at-rest p mask) k ≡ true)
+Inv-loop p set k₀ k = (k ≤ positions Jobs) × (every (at-rest p set) k ≡ true)
 
 abbrev μ-loop : tie.MeasureT-loop
-μ-loop p mask k₀ k = positions Jobs - k
+μ-loop p set k₀ k = positions Jobs - k
 
 loop-holds : tie.Need-loop-holds Inv-loop μ-loop
 loop-holds c = (omega arith, refl)
@@ -38,7 +38,7 @@ unfolding inactive at-rest
 returns c = let a = c .before in
     let l = a .before .before .before in
     let s = l .before .before .args in
-    sym (every-not (at-rest (s .p .now) (s .mask)) (positions Jobs) (l .loop .k) (a .before .before .loop-test .taken) (ap not (rw (a .is-active .ensures, a .before .is-member .ensures) at (c .if1 .taken))))
+    sym (every-not (at-rest (s .p .now) (s .set)) (positions Jobs) (l .loop .k) (a .before .before .loop-test .taken) (ap not (rw (a .is-active .ensures, a .before .is-member .ensures) at (c .if1 .taken))))
 
 add-k : tie.Need-add-k Inv-loop μ-loop
 add-k c = search needs
@@ -51,7 +51,7 @@ unfolding at-rest
 loop-again c = let a = c .before in
     let l = a .before .before .before in
     let s = l .before .before .args in
-    (omega arith, every-next (at-rest (s .p .now) (s .mask)) (l .loop .k) (l .loop .inv .1) (ap not (rw (a .is-active .ensures, a .before .is-member .ensures) at (c .if1 .left))))
+    (omega arith, every-next (at-rest (s .p .now) (s .set)) (l .loop .k) (l .loop .inv .1) (ap not (rw (a .is-active .ensures, a .before .is-member .ensures) at (c .if1 .left))))
 
 returns-2 : tie.Need-returns-2 Inv-loop μ-loop
 unfolding inactive

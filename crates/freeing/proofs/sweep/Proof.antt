@@ -16,10 +16,10 @@ use Rattle.freeing.proofs.join_block.Reads as join-block-reads
 use Rattle.freeing.proofs.run_start.Reads as run-start-reads
 
 abbrev Inv-loop : tie.InvT-loop
-Inv-loop p₀ base e mask block i₀ r₀ p i r = (length p ≡ length p₀) × (sweep p₀ e mask block e (starts p₀ base e) ≡ sweep p e mask block r (starts p i e))
+Inv-loop p₀ base e set block i₀ r₀ p i r = (length p ≡ length p₀) × (sweep p₀ e set block e (starts p₀ base e) ≡ sweep p e set block r (starts p i e))
 
 abbrev μ-loop : tie.MeasureT-loop
-μ-loop p₀ base e mask block i₀ r₀ p i r = e - i
+μ-loop p₀ base e set block i₀ r₀ p i r = e - i
 
 loop-holds : tie.Need-loop-holds Inv-loop μ-loop
 loop-holds c = (refl, refl)
