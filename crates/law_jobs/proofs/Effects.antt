@@ -2,7 +2,7 @@
 use Prim.Native.Nat.{ℕ, _+_, _*_, _%_, _≤_, _<_}
 use mathlib.Core.Path.{_≡_, refl, sym, ap, _∙_, subst}
 use mathlib.Core.Bool.{Bool, true, false, cond, not, _&&_}
-use mathlib.Core.Logic.{⊎-elim, _⊎_, inl, inr}
+use mathlib.Core.Logic.{⊎-elim, inl, inr}
 use mathlib.Core.List.{List}
 use native.Mathlib.Omega.{arith}
 use lib.ListN.{length}
@@ -10,18 +10,16 @@ use lib.Seq.{getD-set-other}
 use lib.Dec.{T, ltb, eqb, ltb→lt}
 use lib.IntN.{ℤ, pos}
 use borrow.Author.Tests.{eq-eqb}
-use mir.Syntax.{w32}
-use mir.ValLaws.{toZ-ofZ}
 use Rattle.words.specs.Words.{word}
-use Rattle.words.specs.Signed.{signed, bits, eqZ}
+use Rattle.words.specs.Signed.{bits, eqZ}
 use Rattle.words.proofs.Tests.{false-true}
 use Rattle.picture.specs.Layout.{current-word, heap-base, positions, width, without-end}
-use Rattle.picture.specs.Records.{slot, field, number, priority, accumulated, timeout, waited-for, used, ready, accumulated-field, key-field, number-field, priority-field, timeout-field, wait-field, with-accumulated, with-field, with-key, with-priority, with-timeout, with-wait}
+use Rattle.picture.specs.Records.{slot, field, number, priority, accumulated, timeout, waited-for, used, accumulated-field, key-field, number-field, priority-field, timeout-field, wait-field, with-accumulated, with-field, with-key, with-priority, with-timeout, with-wait}
 use Rattle.picture.specs.Numbers.{position, live}
 use Rattle.picture.specs.declared.Table.the-variants.{Jobs}
 use Rattle.picture.proofs.Records.{used-below}
 use Rattle.picture.specs.Layout.{greatest-priority, hold}
-use Rattle.picture.proofs.Timeout.{Timely, timely-zero, timely-endless, timely-fits, timeout-same, timeout-zero, ready-not}
+use Rattle.picture.proofs.Timeout.{Timely, timely-zero, timely-endless, timely-fits, timeout-same, timeout-zero, timeout-stored, ready-not}
 use Rattle.sound_facts.proofs.Sound.{Sizes, Waits, Jobs-fine, Sound}
 use Rattle.law_steady.proofs.Steady.{first-turning, Steady, Turning, steady-live, waits-kept, sound-turning}
 use Rattle.law_steady.proofs.Writes.{field-kept, Written, written-none, written-field, written-reads}
@@ -75,8 +73,8 @@ module _ (p : List ℕ) (S : Sound p) (k : ℕ) (u : used p Jobs k ≡ true) whe
     unfolding suspended
     suspended-turning h =
         let frames : timeout s4 k ≡ t =
-        ap signed (kept s3 timeout-field key-field 0 tt tt tt ∙ kept s2 timeout-field accumulated-field 0 tt tt tt ∙ kept s1 timeout-field wait-field 0 tt tt tt
-        ∙ written-reads p p k timeout-field (bits t) room (omega arith) start) ∙ toZ-ofZ w32 t (timely-fits t h) in
+        timeout-stored s4 k t (timely-fits t h) (kept s3 timeout-field key-field 0 tt tt tt ∙ kept s2 timeout-field accumulated-field 0 tt tt tt ∙ kept s1 timeout-field wait-field 0 tt tt tt
+        ∙ written-reads p p k timeout-field (bits t) room (omega arith) start) in
         let none : waited-for s4 k ≡ 0 =
         kept s3 wait-field key-field 0 tt tt tt ∙ kept s2 wait-field accumulated-field 0 tt tt tt ∙ written-reads p s1 k wait-field 0 room (omega arith) w1 in
         let nought : accumulated s4 k ≡ 0 = kept s3 accumulated-field key-field 0 tt tt tt ∙ written-reads p s2 k accumulated-field 0 room (omega arith) w2 in
@@ -191,8 +189,7 @@ module _ (p : List ℕ) (S : Sound p) (k : ℕ) (u : used p Jobs k ≡ true) whe
     pub awaiting-turning : live p Jobs n ≡ true → (n ≡ number p Jobs k → ⊥) → Turning c3 k
     awaiting-turning lives other =
         let frames : timeout c3 k ≡ without-end =
-        ap signed (kept c2 timeout-field wait-field n tt tt tt ∙ kept c1 timeout-field accumulated-field 0 tt tt tt ∙ written-reads p p k timeout-field (bits without-end) room (omega arith) start)
-        ∙ toZ-ofZ w32 without-end (timely-fits without-end timely-endless) in
+        timeout-stored c3 k without-end (timely-fits without-end timely-endless) (kept c2 timeout-field wait-field n tt tt tt ∙ kept c1 timeout-field accumulated-field 0 tt tt tt ∙ written-reads p p k timeout-field (bits without-end) room (omega arith) start) in
         let nought : accumulated c3 k ≡ 0 = kept c2 accumulated-field wait-field n tt tt tt ∙ written-reads p c1 k accumulated-field 0 room (omega arith) z1 in
         let same : priority c3 k ≡ priority p k =
         kept c2 priority-field wait-field n tt tt tt ∙ kept c1 priority-field accumulated-field 0 tt tt tt ∙ kept p priority-field timeout-field (bits without-end) tt tt tt in

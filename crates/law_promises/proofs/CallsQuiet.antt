@@ -11,9 +11,7 @@ use lib.Dec.{eqb}
 use lib.IntN.{ℤ, pos}
 use lib.Signed.{nonNeg}
 use borrow.Author.Tests.{le-leb}
-use mir.Syntax.{w32}
-use mir.ValLaws.{toZ-ofZ}
-use Rattle.words.specs.Signed.{signed, bits, eqZ}
+use Rattle.words.specs.Signed.{bits, eqZ}
 use Rattle.words.proofs.Tests.{both, false-true}
 use Rattle.picture.specs.Layout.{nobody, heap-base, positions, width}
 use Rattle.picture.specs.Records.{field, number, priority, accumulated, timeout, used, ready, active, accumulated-field, key-field, timeout-field, wait-field, with-accumulated, with-field, with-key, with-priority, with-timeout, with-wait}
@@ -22,7 +20,7 @@ use Rattle.picture.specs.declared.Table.the-variants.{Jobs}
 use Rattle.picture.proofs.Records.{used-below}
 use Rattle.picture.proofs.Numbers.{Live, live-is}
 use Rattle.picture.specs.Layout.{without-end}
-use Rattle.picture.proofs.Timeout.{Timely, timely-fits, timely-endless, timeout-same, ready-has}
+use Rattle.picture.proofs.Timeout.{Timely, timely-fits, timely-endless, timeout-same, timeout-stored, ready-has}
 use Rattle.timeouts.specs.Timeout.{timeout-of, timeout-in, low-half, value}
 use Rattle.timeouts.specs.declared.Timeout.{Timeout}
 use Rattle.timeouts.proofs.Cases.{value-timely, value-zero}
@@ -159,12 +157,11 @@ module _ (p : List ℕ) (S : Sound p) (k : ℕ) (u : used p Jobs k ≡ true) whe
 
     suspended-timeout : Timely t → timeout (suspended p k t) k ≡ t
     unfolding suspended
-    suspended-timeout h = ap signed
+    suspended-timeout h = timeout-stored (suspended p k t) k t (timely-fits t h)
         (field-kept s3 k k timeout-field key-field 0 (omega arith) (omega arith) (λ e. omega arith)
         ∙ field-kept s2 k k timeout-field accumulated-field 0 (omega arith) (omega arith) (λ e. omega arith)
         ∙ field-kept s1 k k timeout-field wait-field 0 (omega arith) (omega arith) (λ e. omega arith)
         ∙ reads p timeout-field (bits t) (omega arith) refl)
-        ∙ toZ-ofZ w32 t (timely-fits t h)
 
     suspended-nought : accumulated (suspended p k t) k ≡ 0
     unfolding suspended
@@ -241,11 +238,10 @@ module _ (p : List ℕ) (S : Sound p) (m v : ℕ) (lives : live p Jobs m ≡ tru
       (written-field q q c timeout-field (bits without-end) (omega arith) (omega arith) (written-none q c c-used)))
 
   c-timeout : timeout c3 c ≡ without-end
-  c-timeout = ap signed
+  c-timeout = timeout-stored c3 c without-end (timely-fits without-end timely-endless)
       (field-kept c2 c c timeout-field wait-field m (omega arith) (omega arith) (λ e. omega arith)
       ∙ field-kept c1 c c timeout-field accumulated-field 0 (omega arith) (omega arith) (λ e. omega arith)
       ∙ reads p S c c-was-used q timeout-field (bits without-end) (omega arith) (changed .steady .long))
-      ∙ toZ-ofZ w32 without-end (timely-fits without-end timely-endless)
 
   c1-long : length c1 ≡ length q
   c1-long = simp length-set

@@ -6,9 +6,8 @@ use mathlib.Core.Bool.{true, false}
 use mathlib.Core.List.{List}
 use lib.IntN.{ℤ}
 use lib.ListN.{length}
-use mir.Syntax.{w32}
-use mir.Val.{ofZ}
 use Rattle.words.specs.Words.{put}
+use Rattle.words.specs.Signed.{bits}
 use Rattle.picture.specs.Keys.{done, bad-parameter, not-sound}
 use Rattle.sound.specs.Sound.{sound}
 use Rattle.calls.specs.Outcome.{Outcome, Meets, refuse}
@@ -18,7 +17,7 @@ use Rattle.manager.specs.Turn.{pick-picture, ticking}
 -- a refusal changes D0 and nothing else, for every call at once
 pub record OnlyKeyWritten (o : Outcome) (p d : List ℕ) : Type 0 where
   pub picture : o .picture ≡ p
-  pub registers : o .registers ≡ put d 0 (ofZ w32 (o .key))
+  pub registers : o .registers ≡ put d 0 (bits (o .key))
 
 abbrev pub RefusalWritesOnlyD0 : Type 0
 RefusalWritesOnlyD0 = (trap : ℕ) (p d name : List ℕ) → length d ≡ 8 → (called trap p d name .key ≡ done → ⊥) → OnlyKeyWritten (called trap p d name) p d

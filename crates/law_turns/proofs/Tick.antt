@@ -1,5 +1,5 @@
 -- A tick keeps a sound picture sound, and every live number.
-use Prim.Native.Nat.{ℕ, _+_, _*_, _≤_, _<_}
+use Prim.Native.Nat.{ℕ, _+_, _*_, _<_}
 use mathlib.Core.Path.{_≡_, refl, sym, ap, _∙_, subst}
 use mathlib.Core.Bool.{Bool, true, false}
 use mathlib.Core.Logic.{⊎-elim, _⊎_, inl, inr, by-cases, _≢_}
@@ -9,7 +9,7 @@ use native.Mathlib.Decide.{ℕ-discrete}
 use lib.ListN.{length}
 use Rattle.words.specs.Words.{word}
 use Rattle.words.proofs.Tests.{false-true}
-use Rattle.picture.specs.Layout.{nobody, current-word, positions, width, first-record}
+use Rattle.picture.specs.Layout.{current-word, positions, width, first-record}
 use Rattle.picture.specs.Records.{slot, field, number, priority, accumulated, timeout, waited-for, used, ready, timeout-field, wait-field}
 use Rattle.picture.specs.Numbers.{position, live}
 use Rattle.picture.specs.declared.Table.{Table}

@@ -5,9 +5,8 @@ use mathlib.Core.Bool.{not, cond}
 use mathlib.Core.List.{List, _∷_}
 use lib.ListN.{length}
 use lib.Dec.{eqb}
-use mir.Syntax.{w32}
-use mir.Val.{ofZ}
 use Rattle.words.specs.Words.{put}
+use Rattle.words.specs.Signed.{bits}
 use Rattle.picture.specs.Layout.{nobody}
 use Rattle.picture.specs.Keys.{invalid-job, bad-parameter, not-sound}
 use Rattle.sound.specs.Sound.{sound}
@@ -28,7 +27,7 @@ checked trap name p d = record {
 
 -- D0 gets the key
 abbrev pub with-key : Outcome → Outcome
-with-key o = record { key = o .key; picture = o .picture; registers = put (o .registers) 0 (ofZ w32 (o .key)) }
+with-key o = record { key = o .key; picture = o .picture; registers = put (o .registers) 0 (bits (o .key)) }
 
 -- a trap call
 unfoldable pub called : ℕ → List ℕ → List ℕ → List ℕ → Outcome

@@ -1,15 +1,13 @@
 -- A job's timeout as a signed number, and who is ready.
-use Prim.Native.Nat.{ℕ, _+_, _*_, _<_, _≤_, _^_}
+use Prim.Native.Nat.{ℕ, _≤_}
 use mathlib.Core.Path.{_≡_, refl, sym, ap, _∙_}
 use mathlib.Core.Bool.{Bool, true, false, _&&_}
 use mathlib.Core.List.{List}
 use native.Mathlib.Omega.{arith}
-use lib.Dec.{leb, eqb}
+use lib.Dec.{leb}
 use lib.IntN.{ℤ, pos, negsuc}
-use lib.ListN.{length}
-use lib.Seq.{getD-set-same}
 use lib.Signed.{leZ}
-use borrow.Author.Tests.{le-leb, leb-true, eq-eqb, eqb-true}
+use borrow.Author.Tests.{le-leb, leb-true, eqb-true}
 use mir.Syntax.{w32}
 use mir.Val.{SFits}
 use mir.ValLaws.{toZ-pos, toZ-ofZ}
@@ -18,7 +16,7 @@ use Rattle.words.proofs.Signed.{eqZ-true, eq-eqZ, signed-zero}
 use Rattle.words.proofs.Tests.{both}
 use Rattle.picture.specs.declared.Table.the-variants.{Jobs}
 use Rattle.picture.specs.Layout.{greatest-timeout, without-end}
-use Rattle.picture.specs.Records.{slot, field, timeout-field, priority, timeout, with-timeout, ready}
+use Rattle.picture.specs.Records.{field, timeout-field, priority, timeout, ready}
 
 -- a timeout is known by its longword, and is 0 exactly where that is 0
 pub timeout-same : (p q : List ℕ) (k : ℕ) → field q Jobs k timeout-field ≡ field p Jobs k timeout-field → timeout q k ≡ timeout p k
@@ -45,8 +43,8 @@ timely-fits (pos n) h = let l : n ≤ greatest-timeout = leb-true n greatest-tim
 timely-fits (negsuc n) h = let l : n ≤ 0 = leb-true n 0 (h .0) in record { sfits = omega arith }
 
 -- a timeout that was stored is read again
-pub timeout-stored : (p : List ℕ) (k : ℕ) (z : ℤ) → SFits w32 z → slot Jobs k + timeout-field < length p → timeout (with-timeout p k z) k ≡ z
-timeout-stored p k z f l = ap signed (getD-set-same p (slot Jobs k + timeout-field) (bits z) 0 l) ∙ toZ-ofZ w32 z f
+pub timeout-stored : (p : List ℕ) (k : ℕ) (z : ℤ) → SFits w32 z → field p Jobs k timeout-field ≡ bits z → timeout p k ≡ z
+timeout-stored p k z f e = ap signed e ∙ toZ-ofZ w32 z f
 
 -- a ready job is known by its priority and its timeout
 pub ready-same : (p q : List ℕ) (k : ℕ) → priority q k ≡ priority p k → timeout q k ≡ timeout p k → ready q k ≡ ready p k

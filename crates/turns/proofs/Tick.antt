@@ -1,7 +1,7 @@
 -- Laws of specs/Tick.antt: what a tick changes.
 use Prim.Native.Nat.{ℕ, zero, suc, _+_, _-_, _<_, _≤_, _^_}
 use native.Mathlib.Omega.{arith}
-use mathlib.Core.Path.{_≡_, refl, sym, ap, _∙_, subst}
+use mathlib.Core.Path.{_≡_, refl, sym, ap, subst}
 use mathlib.Core.Bool.{true, false, true≢false, false≢true}
 use mathlib.Core.Logic.{_≢_, _⊎_, inl, inr}
 use mathlib.Core.List.{List}
@@ -11,14 +11,13 @@ use lib.Signed.{leZ, nonNeg}
 use borrow.Author.Tests.{le-leb, le-ltb, leb-true}
 use mir.Syntax.{w32}
 use mir.Val.{SFits}
-use mir.ValLaws.{toZ-ofZ}
 use Rattle.words.specs.Words.{word}
-use Rattle.words.specs.Signed.{signed, bits}
+use Rattle.words.specs.Signed.{bits}
 use Rattle.words.proofs.Signed.{signed-fits}
 use Rattle.picture.specs.Layout.{positions, width, first-record, greatest-timeout}
 use Rattle.picture.specs.Records.{slot, field, number, priority, accumulated, timeout, accumulated-field, number-field, priority-field, timeout-field}
 use Rattle.picture.specs.declared.Table.the-variants.{Jobs}
-use Rattle.picture.proofs.Timeout.{Timely}
+use Rattle.picture.proofs.Timeout.{Timely, timeout-stored}
 use Rattle.turns.specs.Tick.{fallen, ticked}
 use Rattle.turns.proofs.Fields.{length-set-each, set-each-other, set-each-at, other-field-stays}
 
@@ -115,7 +114,7 @@ module _ (p : List ℕ) where
   tick-lets-timeouts-fall whole =
       record {
         long = tick-keeps-the-length;
-        falls = λ k l. ap signed (set-each-at p timeout-field after (omega arith) (positions Jobs) k l whole) ∙ toZ-ofZ w32 (fallen (timeout p k)) (fallen-fits (timeout p k) (signed-fits (field p Jobs k timeout-field)));
+        falls = λ k l. timeout-stored (ticked p) k (fallen (timeout p k)) (fallen-fits (timeout p k) (signed-fits (field p Jobs k timeout-field))) (set-each-at p timeout-field after (omega arith) (positions Jobs) k l whole);
         other-fields = tick-keeps-other-fields;
         elsewhere = tick-changes-only;
       }

@@ -4,9 +4,8 @@ use mathlib.Core.Bool.{cond, _&&_, _||_}
 use mathlib.Core.List.{List}
 use lib.Dec.{ltb, eqb}
 use lib.IntN.{ℤ}
-use mir.Syntax.{w32}
-use mir.Val.{toZ}
 use Rattle.words.specs.Words.{put}
+use Rattle.words.specs.Signed.{signed}
 use Rattle.picture.specs.Layout.{nobody, current-word, positions}
 use Rattle.picture.specs.Records.{accumulated-field, number, priority, accumulated, delivered, with-key, ready}
 use Rattle.picture.specs.Keys.{done}
@@ -45,7 +44,7 @@ unfoldable pub picked-number : List ℕ → ℕ
 picked-number p = cond (eqb (chosen-job p) (positions Jobs)) nobody (number p Jobs (chosen-job p))
 
 unfoldable pub picked-key : List ℕ → ℤ
-picked-key p = cond (eqb (chosen-job p) (positions Jobs)) done (toZ w32 (delivered p (chosen-job p)))
+picked-key p = cond (eqb (chosen-job p) (positions Jobs)) done (signed (delivered p (chosen-job p)))
 
 abbrev pub answer : List ℕ → Picked
 answer p = record { number = picked-number p; key = picked-key p }

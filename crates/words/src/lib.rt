@@ -58,7 +58,7 @@ pub fn low_half(register: u32) -> i32
 }
 
 // From here on a longword read as signed is negative.
-pub const FIRST_NEGATIVE: u32 = 0x8000_0000;
+const FIRST_NEGATIVE: u32 = 0x8000_0000;
 
 // A longword, read as signed.
 pub fn signed_of(longword: u32) -> i32
