@@ -6,14 +6,9 @@ use mathlib.Core.List.{List, [], _∷_}
 use lib.IntN.{ℤ}
 use Rattle.words.specs.Words.{clear}
 use Rattle.picture.specs.Keys.{done, out-of-memory, bad-name, bad-parameter}
-use Rattle.picture.specs.Records.{members, with-members, used, ready}
-use Rattle.picture.specs.Numbers.{live, job-at, free-position}
-use Rattle.blocks.specs.Walk.{good, next, starts, starts-within}
-use Rattle.sound_matching.specs.Match.{has-block, pair, block-matched, matches, entry-matched}
-use Rattle.sound_records.specs.Rules.{zero-base, priority-within, accumulated-within, timeout-within, ends-in-one, blank, positioned, zero-exists, tag-within, tags-differ, tag-once, owner-live, owner-older, zero-unowned, tag-given, wait-allowed, idle-zero}
-use Rattle.sound_areas.specs.Rules.{length-whole, kind-known, start-zero, free-blank, queue-room, tiles, untouched, kind-fits, holder-live}
-use Rattle.sound_whole.specs.Whole.{size-stated, seven-zero, heap-stated, last-within, current-ready}
-use Rattle.sound.specs.Sound.{sound}
+use Rattle.picture.specs.Records.{with-members}
+use Rattle.picture.specs.Numbers.{job-at, free-position}
+use Rattle.sound.proofs.Worked.{computed}
 use Rattle.headers.specs.Header.{header}
 use Rattle.placing.specs.Place.{fits, chosen, split, placed, answer, longer, longest}
 use Rattle.fresh.specs.Fresh.{fresh}
@@ -107,7 +102,7 @@ cases =
 
 -- "Positions 0, 1, 2 ready at 32, 64, 127, all accumulated 0: picks 0, 2, 1, 2, 0, 1, 2, 0."
 pub table : Answered cases × DeskBench
-unfolding fresh clear lowest-clear used ready live free-position good next starts-within starts has-block pair block-matched matches entry-matched zero-base priority-within accumulated-within timeout-within ends-in-one blank positioned zero-exists tag-within tags-differ tag-once owner-live owner-older zero-unowned tag-given wait-allowed idle-zero length-whole kind-known start-zero free-blank queue-room tiles untouched kind-fits holder-live size-stated seven-zero heap-stated last-within current-ready sound header fits chosen split placed longer longest with-bit job-at answer meant longest-room length-good room-registers taken take has-position has-tag recorded counted entered owner-found created job-registers create naming prioritized set-priority open-channel trap-one trap-two named checked called key-of number-in letter pipe digit number numbered good-name name-read outcome members with-members
+unfolding computed fresh clear lowest-clear free-position header fits chosen split placed longer longest with-bit job-at answer meant longest-room length-good room-registers taken take has-position has-tag recorded counted entered owner-found created job-registers create naming prioritized set-priority open-channel trap-one trap-two named checked called key-of number-in letter pipe digit number numbered good-name name-read outcome with-members
 table = (
   ((refl, (refl, refl)), ((refl, (refl, refl)), ((refl, (refl, refl)), ((refl, (refl, refl)), ((refl, (refl, refl)), ((refl, (refl, refl)), ((refl, (refl, refl)), ((refl, (refl, refl)), ((refl, (refl, refl)), ((refl, (refl, refl)), ((refl, (refl, refl)), ((refl, (refl, refl)), tt)))))))))))),
   desk-bench,

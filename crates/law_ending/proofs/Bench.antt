@@ -8,15 +8,11 @@ use lib.Seq.{sets}
 use Rattle.words.specs.Words.{clear}
 use Rattle.words.specs.Signed.{bits}
 use Rattle.picture.specs.Layout.{nobody, without-end}
-use Rattle.picture.specs.Records.{members, with-members, used, ready}
-use Rattle.picture.specs.Numbers.{live}
+use Rattle.picture.specs.Records.{members, with-members, used}
 use Rattle.blocks.specs.Walk.{good, next, starts-within, starts}
 use Rattle.headers.specs.Header.{header}
-use Rattle.sound_matching.specs.Match.{has-block, pair, block-matched, matches, entry-matched}
-use Rattle.sound_records.specs.Rules.{zero-base, priority-within, accumulated-within, timeout-within, ends-in-one, blank, positioned, zero-exists, tag-within, tags-differ, tag-once, owner-live, owner-older, zero-unowned, tag-given, wait-allowed, idle-zero}
-use Rattle.sound_areas.specs.Rules.{length-whole, kind-known, start-zero, free-blank, queue-room, tiles, untouched, kind-fits, holder-live}
-use Rattle.sound_whole.specs.Whole.{size-stated, seven-zero, heap-stated, last-within, current-ready}
 use Rattle.sound.specs.Sound.{sound}
+use Rattle.sound.proofs.Worked.{computed}
 use Rattle.freeing.specs.Sweep.{goes, freed, absorbed, joined, run, swept}
 use Rattle.masks.specs.Masks.{with-bit, without, mask}
 use Rattle.tree.specs.Tree.{climbs, in-tree, tree}
@@ -69,11 +65,11 @@ after =
 
 -- both pictures are sound: the laws speak of something
 before-is-sound : sound before ≡ true
-unfolding tables heap transient before sound size-stated seven-zero heap-stated last-within current-ready zero-base priority-within accumulated-within timeout-within ends-in-one blank positioned zero-exists tag-within tags-differ tag-once owner-live owner-older zero-unowned tag-given wait-allowed idle-zero length-whole kind-known start-zero free-blank queue-room tiles untouched kind-fits holder-live has-block pair block-matched matches entry-matched used ready live starts starts-within next good members
+unfolding tables heap transient before computed
 before-is-sound = refl
 
 after-is-sound : sound after ≡ true
-unfolding after sound size-stated seven-zero heap-stated last-within current-ready zero-base priority-within accumulated-within timeout-within ends-in-one blank positioned zero-exists tag-within tags-differ tag-once owner-live owner-older zero-unowned tag-given wait-allowed idle-zero length-whole kind-known start-zero free-blank queue-room tiles untouched kind-fits holder-live has-block pair block-matched matches entry-matched used ready live starts starts-within next good members
+unfolding after computed
 after-is-sound = refl
 
 -- the tree of job 2: positions 1, 2, 3
