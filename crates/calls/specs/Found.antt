@@ -1,5 +1,5 @@
--- A number that is looked up: the check of what comes of it, "job named isn't live", -2, and "channel not live", -6; and the position
--- that is found, of which a dead number has none.
+-- A number that is looked up: its check, "job named isn't live", -2, or "channel not live", -6, and the position that is found.
+-- A dead number is refused, and 0 stands for its position.
 use Prim.Native.Nat.{ℕ}
 use mathlib.Core.Bool.{true, false}
 use Rattle.picture.specs.Keys.{done, invalid-job, channel-not-open}

@@ -28,7 +28,7 @@ abbrev pub room-check : Placement → Check
 room-check (At i) = (true, done)
 room-check Nowhere = (false, out-of-memory)
 
--- the block where room is found, of which none has none
+-- the block where room is found; where there is none the call is refused, and 0 stands for it
 abbrev pub room-place : Placement → ℕ
 room-place (At i) = i
 room-place Nowhere = 0
