@@ -122,12 +122,11 @@ pub fn walk_entries(p: &[u32], t: Table, noted: &mut [u8; 64]) -> Walked
 {
     let n = picture::positions_of(t);
     let first = sound_matching::first_of(t);
-    let members = picture::members_at(p, t);
     let mut seen = [0u8; 64];
     let mut entries = 0;
     let mut k = 0;
     while k < n {
-        if !masks::is_member(members, k) {
+        if !picture_tables::is_used(p, t, k) {
             if !is_blank_fine(p, t, k) {
                 return Walked::Broken;
             }

@@ -3,16 +3,11 @@ use lib.ListN.{getD}
 use Rattle.sound_entries.proofs.Passed.{Passed, passed-none, passed-blank, passed-live, not-blank, not-live, not-once, passed-all}
 use Rattle.sound_matching.specs.Match.{first}
 use Rattle.picture.specs.Layout.{positions}
-use Rattle.words.specs.Bits.{bit}
-use Rattle.picture.specs.Records.{members, used}
-use Rattle.picture.specs.declared.Table.{Table}
-use Rattle.picture.proofs.Records.{shared, used-is}
+use Rattle.picture.proofs.Records.{shared}
 use Rattle.picture.proofs.Members.{positions-within}
 use borrow.Author.Tests.{not-true, not-false}
 use mathlib.Core.Path.{_≡_, sym, _∙_}
-use Prim.Native.Nat.{ℕ, _-_, _%_, _≤_, _<_}
-use mathlib.Core.Bool.{Bool}
-use mathlib.Core.List.{List}
+use Prim.Native.Nat.{_-_, _%_, _≤_}
 use borrow.Author.Needs.{needs}
 use native.Mathlib.Omega.{arith}
 use Rattle.sound_entries.proofs.walk_entries.Statement.{statement}
@@ -27,14 +22,13 @@ use Rattle.sound_matching.proofs.one_of.Reads as one-of-reads
 use Rattle.picture.proofs.positions_of.Reads as positions-of-reads
 use Rattle.sound_records.proofs.tag_at.Reads as tag-at-reads
 use Rattle.picture_tables.proofs.field_of.Reads as field-of-reads
-use Rattle.masks.proofs.is_member.Reads as is-member-reads
-use Rattle.picture.proofs.members_at.Reads as members-at-reads
+use Rattle.picture_tables.proofs.is_used.Reads as is-used-reads
 
 abbrev Inv-loop : tie.InvT-loop
-Inv-loop p t noted₀ n f m seen₀ entries₀ k₀ noted seen entries k = ((n ≡ positions t) × (m ≡ members p t)) × ((f ≡ first t) × ((k ≤ n) × Passed p t k entries seen))
+Inv-loop p t noted₀ n f seen₀ entries₀ k₀ noted seen entries k = (n ≡ positions t) × ((f ≡ first t) × ((k ≤ n) × Passed p t k entries seen))
 
 abbrev μ-loop : tie.MeasureT-loop
-μ-loop p t noted₀ n f m seen₀ entries₀ k₀ noted seen entries k = n - k
+μ-loop p t noted₀ n f seen₀ entries₀ k₀ noted seen entries k = n - k
 
 positions-of-requires : tie.Need-positions-of-requires Inv-loop μ-loop
 positions-of-requires c κs = search needs
@@ -42,32 +36,22 @@ positions-of-requires c κs = search needs
 first-of-requires : tie.Need-first-of-requires Inv-loop μ-loop
 first-of-requires c κs = search needs
 
-members-at-requires : tie.Need-members-at-requires Inv-loop μ-loop
-members-at-requires c κs = search needs
-
 loop-holds : tie.Need-loop-holds Inv-loop μ-loop
-loop-holds c = ((c .before .before .positions-of .ensures, c .members-at .ensures), (c .before .first-of .ensures, (omega arith, passed-none _ _ _ (search needs))))
+loop-holds c = (c .before .positions-of .ensures, (c .first-of .ensures, (omega arith, passed-none _ _ _ (search needs))))
 
--- the position is below the table's, and so its bit says whether it is in use
-below : (p : List ℕ) (t : Table) (k n m : ℕ) → (n ≡ positions t) × (m ≡ members p t) → k < n → k < positions t
-below p t k n m i l = rw (i .0) at l
-
-told : (p : List ℕ) (t : Table) (k n m : ℕ) (b : Bool) → (n ≡ positions t) × (m ≡ members p t) → k < n → bit m k ≡ b → used p t k ≡ b
-told p t k n m b i l e = used-is p t k (below p t k n m i l) ∙ (rw (i .1) at e)
-
-is-member-requires : tie.Need-is-member-requires Inv-loop μ-loop
-is-member-requires c κs = omega (arith, positions-within (c .before .before .before .before .before .before .args .t), c .before .loop .inv .0 .0, c .loop-test .taken)
+is-used-requires : tie.Need-is-used-requires Inv-loop μ-loop
+is-used-requires c κs = search needs
 
 is-blank-fine-requires : tie.Need-is-blank-fine-requires Inv-loop μ-loop
 is-blank-fine-requires c κs =
     let l = c .before .before in
-    (l .before .before .before .before .before .before .pre, below _ _ _ _ _ (l .before .loop .inv .0) (l .loop-test .taken))
+    (l .before .before .before .before .before .pre, rw (l .before .loop .inv .0) at (l .loop-test .taken))
 
 returns : tie.Need-returns Inv-loop μ-loop
 returns c =
     let u = c .before .before in
     let l = u .before .before in
-    not-blank _ _ _ (below _ _ _ _ _ (l .before .loop .inv .0) (l .loop-test .taken)) (told _ _ _ _ _ _ (l .before .loop .inv .0) (l .loop-test .taken) (sym (u .before .is-member .ensures) ∙ not-true _ (u .if1 .taken))) (sym (c .before .is-blank-fine .ensures) ∙ not-true _ (c .if2 .taken))
+    not-blank _ _ _ (rw (l .before .loop .inv .0) at (l .loop-test .taken)) (sym (u .before .is-used .ensures) ∙ not-true _ (u .if1 .taken)) (sym (c .before .is-blank-fine .ensures) ∙ not-true _ (c .if2 .taken))
 
 add-k : tie.Need-add-k Inv-loop μ-loop
 add-k c = search needs
@@ -80,23 +64,23 @@ loop-again c =
     let u = c .before .before in
     let l = u .before .before in
     let i = l .before .loop .inv in
-    (i .0, (i .1 .0, (omega arith, passed-blank _ _ _ _ _ (i .1 .1 .1) (told _ _ _ _ _ _ (l .before .loop .inv .0) (l .loop-test .taken) (sym (u .before .is-member .ensures) ∙ not-true _ (u .if1 .taken))) (sym (c .before .is-blank-fine .ensures) ∙ not-false _ (c .if2 .left)))))
+    (i .0, (i .1 .0, (omega arith, passed-blank _ _ _ _ _ (i .1 .1 .1) (sym (u .before .is-used .ensures) ∙ not-true _ (u .if1 .taken)) (sym (c .before .is-blank-fine .ensures) ∙ not-false _ (c .if2 .left)))))
 
 is-live-fine-requires : tie.Need-is-live-fine-requires Inv-loop μ-loop
 is-live-fine-requires c κs =
     let l = c .before .before in
-    (l .before .before .before .before .before .before .pre, (below _ _ _ _ _ (l .before .loop .inv .0) (l .loop-test .taken), told _ _ _ _ _ _ (l .before .loop .inv .0) (l .loop-test .taken) (sym (c .before .is-member .ensures) ∙ not-false _ (c .if1 .left))))
+    (l .before .before .before .before .before .pre, (rw (l .before .loop .inv .0) at (l .loop-test .taken), sym (c .before .is-used .ensures) ∙ not-false _ (c .if1 .left)))
 
 returns-2 : tie.Need-returns-2 Inv-loop μ-loop
 returns-2 c =
     let u = c .before .before in
     let l = u .before .before in
-    not-live _ _ _ (below _ _ _ _ _ (l .before .loop .inv .0) (l .loop-test .taken)) (told _ _ _ _ _ _ (l .before .loop .inv .0) (l .loop-test .taken) (sym (u .before .is-member .ensures) ∙ not-false _ (u .if1 .left))) (sym (c .before .is-live-fine .ensures) ∙ not-true _ (c .if3 .taken))
+    not-live _ _ _ (rw (l .before .loop .inv .0) at (l .loop-test .taken)) (sym (u .before .is-used .ensures) ∙ not-false _ (u .if1 .left)) (sym (c .before .is-live-fine .ensures) ∙ not-true _ (c .if3 .taken))
 
 tag-at-requires : tie.Need-tag-at-requires Inv-loop μ-loop
 tag-at-requires c κs =
     let l = c .before .before .before .before in
-    (l .before .before .before .before .before .before .pre, below _ _ _ _ _ (l .before .loop .inv .0) (l .loop-test .taken))
+    (l .before .before .before .before .before .pre, rw (l .before .loop .inv .0) at (l .loop-test .taken))
 
 cast-low : tie.Need-cast-low Inv-loop μ-loop
 cast-low c = search needs
@@ -107,14 +91,14 @@ array-read-is-tag-once c = search needs
 is-tag-once-requires : tie.Need-is-tag-once-requires Inv-loop μ-loop
 is-tag-once-requires c κs =
     let l = c .before .before .before .before .before in
-    (l .before .before .before .before .before .before .pre, below _ _ _ _ _ (l .before .loop .inv .0) (l .loop-test .taken))
+    (l .before .before .before .before .before .pre, rw (l .before .loop .inv .0) at (l .loop-test .taken))
 
 returns-3 : tie.Need-returns-3 Inv-loop μ-loop
 returns-3 c =
     let v = c .before .before .before in
     let u = v .before .before in
     let l = u .before .before in
-    not-once _ _ _ (eqb (getD (l .before .loop .seen) (c .before .before .tag-at .result % 64) 0) 1) (below _ _ _ _ _ (l .before .loop .inv .0) (l .loop-test .taken)) (told _ _ _ _ _ _ (l .before .loop .inv .0) (l .loop-test .taken) (sym (u .before .is-member .ensures) ∙ not-false _ (u .if1 .left))) (sym (c .before .is-tag-once .ensures) ∙ not-true _ (c .if4 .taken))
+    not-once _ _ _ (eqb (getD (l .before .loop .seen) (c .before .before .tag-at .result % 64) 0) 1) (rw (l .before .loop .inv .0) at (l .loop-test .taken)) (sym (u .before .is-used .ensures) ∙ not-false _ (u .if1 .left)) (sym (c .before .is-tag-once .ensures) ∙ not-true _ (c .if4 .taken))
 
 array-write-seen : tie.Need-array-write-seen Inv-loop μ-loop
 array-write-seen c = search needs
@@ -122,13 +106,13 @@ array-write-seen c = search needs
 cast-noted : tie.Need-cast-noted Inv-loop μ-loop
 cast-noted c =
     let l = c .before .before .before .before .before .before .before in
-    record { fits = omega (arith, positions-within (l .before .before .before .before .before .before .args .t), l .before .loop .inv .0 .0, l .loop-test .taken) }
+    record { fits = omega (arith, positions-within (l .before .before .before .before .before .args .t), l .before .loop .inv .0, l .loop-test .taken) }
 
 field-of-requires : tie.Need-field-of-requires Inv-loop μ-loop
 field-of-requires c κs =
     let l = c .before .before .before .before .before .before .before in
-    let s = l .before .before .before .before .before .before in
-    (s .pre, (below _ _ _ _ _ (l .before .loop .inv .0) (l .loop-test .taken), shared (s .args .t) _ (omega arith)))
+    let s = l .before .before .before .before .before in
+    (s .pre, (rw (l .before .loop .inv .0) at (l .loop-test .taken), shared (s .args .t) _ (omega arith)))
 
 cast-noted-2 : tie.Need-cast-noted-2 Inv-loop μ-loop
 cast-noted-2 c = search needs
@@ -156,12 +140,12 @@ loop-again-2 c =
     let u = v .before .before in
     let l = u .before .before in
     let i = l .before .loop .inv in
-    (i .0, (i .1 .0, (omega arith, rw (a .tag-at .ensures) (passed-live _ _ _ _ _ _ (i .1 .1 .1) (told _ _ _ _ _ _ (l .before .loop .inv .0) (l .loop-test .taken) (sym (u .before .is-member .ensures) ∙ not-false _ (u .if1 .left))) (sym (v .before .is-live-fine .ensures) ∙ not-false _ (v .if3 .left)) (rw (a .tag-at .ensures) at (sym (o .before .is-tag-once .ensures) ∙ not-false _ (o .if4 .left))) (rw (i .1 .0) at (c .one-of .ensures .0)) (c .one-of .ensures .1)))))
+    (i .0, (i .1 .0, (omega arith, rw (a .tag-at .ensures) (passed-live _ _ _ _ _ _ (i .1 .1 .1) (sym (u .before .is-used .ensures) ∙ not-false _ (u .if1 .left)) (sym (v .before .is-live-fine .ensures) ∙ not-false _ (v .if3 .left)) (rw (a .tag-at .ensures) at (sym (o .before .is-tag-once .ensures) ∙ not-false _ (o .if4 .left))) (rw (i .1 .0) at (c .one-of .ensures .0)) (c .one-of .ensures .1)))))
 
 returns-4 : tie.Need-returns-4 Inv-loop μ-loop
 returns-4 c =
     let d = c .before .loop in
-    passed-all _ _ _ _ _ (d .inv .1 .1 .1) ((let z : d .k ≡ c .before .before .before .before .positions-of .result = omega arith in z) ∙ d .inv .0 .0)
+    passed-all _ _ _ _ _ (d .inv .1 .1 .1) ((let z : d .k ≡ c .before .before .before .positions-of .result = omega arith in z) ∙ d .inv .0)
 
 pub walk-entries-spec : {M : Type 1} → statement M
 walk-entries-spec =
@@ -171,9 +155,8 @@ walk-entries-spec =
     μ-loop
     positions-of-requires
     first-of-requires
-    members-at-requires
     loop-holds
-    is-member-requires
+    is-used-requires
     is-blank-fine-requires
     returns
     add-k
