@@ -15,8 +15,8 @@ use Rattle.calls.specs.Found.{job-check}
 use Rattle.calls.proofs.Call.{where-all-pass, done-only-where-all-pass, refusals}
 use Rattle.calls.proofs.Found.{live-job-passes, job-that-passes-is-live, job-check-gives-no-other}
 use Rattle.calls.specs.Registers.{D1, D2, meant}
-use Rattle.tree.specs.Under.{Under}
-use Rattle.tree.proofs.Members.{in-tree-says, in-tree-has}
+use Rattle.law_owners.specs.Under.{Under}
+use Rattle.law_owners.proofs.Members.{in-tree-says, in-tree-has}
 use Rattle.law_owners.proofs.Owners.{owners-in-order}
 use Rattle.asking.specs.Ask.{ask}
 

@@ -1,4 +1,3 @@
 -- Laws of the definitions of specs/.
 pub mod Walk
 pub mod Starts
-pub mod Cut

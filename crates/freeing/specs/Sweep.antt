@@ -14,7 +14,7 @@ use Rattle.blocks.specs.Walk.{next, starts}
 use Rattle.headers.specs.Header.{header}
 
 -- The number o names a member of the set m, by its position. Where m is a tree of a sound picture and o is live or nobody, as every owner and every job waited
--- for is there, that is so exactly where the whole number is a member's: `a-member-is-named` and `a-live-number-named-is-a-member` (ended/proofs/Owned.antt).
+-- for is there, that is so exactly where the whole number is a member's: `a-member-is-named` and `a-live-number-named-is-a-member` (law_ending/proofs/Owned.antt).
 abbrev pub named : ℕ → ℕ → Bool
 named m o = ltb (position o) (positions Jobs) && bit m (position o)
 

@@ -1,4 +1,3 @@
 -- Laws of the definitions of specs/.
 pub mod Clear
 pub mod Good
-pub mod Sound

@@ -2,4 +2,3 @@
 pub mod Header
 pub mod Clear
 pub mod Row
-pub mod Neighbours

@@ -1,2 +1,3 @@
--- The marked cases of the desk bench.
+-- The marked cases of the desk bench, and names of every kind.
 pub mod Table
+pub mod Names

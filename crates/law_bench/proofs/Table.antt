@@ -8,7 +8,7 @@ use Rattle.words.specs.Words.{clear}
 use Rattle.picture.specs.Keys.{done, out-of-memory, bad-name, bad-parameter}
 use Rattle.picture.specs.Records.{with-members}
 use Rattle.picture.specs.Numbers.{job-at, free-position}
-use Rattle.sound.proofs.Worked.{computed}
+use Rattle.sound_facts.proofs.Worked.{computed}
 use Rattle.headers.specs.Header.{header}
 use Rattle.placing.specs.Place.{fits, chosen, split, placed, answer, longer, longest}
 use Rattle.fresh.specs.Fresh.{fresh}

@@ -9,3 +9,4 @@ pub mod Freeing
 pub mod Unchanged
 pub mod Intact
 pub mod NoRoom
+pub mod Cut

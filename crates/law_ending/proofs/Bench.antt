@@ -12,7 +12,7 @@ use Rattle.picture.specs.Records.{members, with-members, used}
 use Rattle.blocks.specs.Walk.{good, next, starts-within, starts}
 use Rattle.headers.specs.Header.{header}
 use Rattle.sound.specs.Sound.{sound}
-use Rattle.sound.proofs.Worked.{computed}
+use Rattle.sound_facts.proofs.Worked.{computed}
 use Rattle.freeing.specs.Sweep.{goes, freed, absorbed, joined, run, swept}
 use Rattle.masks.specs.Masks.{with-bit, without, mask}
 use Rattle.tree.specs.Tree.{climbs, in-tree, tree}

@@ -32,9 +32,8 @@ use Rattle.freeing.specs.Sweep.{named, goes}
 use Rattle.tree.specs.Tree.{in-tree, tree}
 use Rattle.masks.specs.Masks.{set-width, mask}
 use Rattle.masks.proofs.Masks.{mask-fits, mask-bit}
-use Rattle.tree.proofs.Owners.{Owners, nobody-is-no-job}
-use Rattle.law_owners.proofs.Owners.{owners-of}
-use Rattle.tree.proofs.Members.{tree-says, tree-has, tree-top, tree-child, tree-owner}
+use Rattle.law_owners.proofs.Owners.{Owners, nobody-is-no-job, owners-of}
+use Rattle.law_owners.proofs.Members.{tree-says, tree-has, tree-top, tree-child, tree-owner}
 use Rattle.emptying.specs.Taken.{channel-goes, channels-of}
 use Rattle.ending.specs.Ended.{no-block}
 use Rattle.law_ending.specs.Promise.{Member}

@@ -33,13 +33,12 @@ use Rattle.sound.specs.Sound.{sound}
 use Rattle.sound_facts.proofs.Sound.{Sound}
 use Rattle.sound_facts.proofs.View.{view}
 use Rattle.freeing.specs.Sweep.{named, goes}
-use Rattle.freeing.proofs.Swept.{given-bytes}
+use Rattle.law_freeing.proofs.Swept.{given-bytes}
 use Rattle.tree.specs.Tree.{tree}
-use Rattle.tree.specs.Under.{Under}
+use Rattle.law_owners.specs.Under.{Under}
 use Rattle.masks.proofs.Masks.{mask-bit}
-use Rattle.tree.proofs.Owners.{Owners}
-use Rattle.law_owners.proofs.Owners.{owners-of}
-use Rattle.tree.proofs.Members.{tree-says, tree-has, tree-unowned}
+use Rattle.law_owners.proofs.Owners.{Owners, owners-of}
+use Rattle.law_owners.proofs.Members.{tree-says, tree-has, tree-unowned}
 use Rattle.emptying.specs.Taken.{waits, channel-goes, channels-of}
 use Rattle.ending.specs.Ended.{no-block, ended}
 use Rattle.law_ending.specs.Promise.{Member, Woken, Leaves, Takes}

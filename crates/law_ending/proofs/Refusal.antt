@@ -23,8 +23,8 @@ use Rattle.calls.specs.Registers.{D1, meant}
 use Rattle.calls.proofs.Call.{Never, key-is-the-verdict, key-from-behind, verdict-from-behind, keys-differ}
 use Rattle.calls.proofs.Found.{live-job-passes, job-that-passes-is-live, job-check-gives-no-other}
 use Rattle.tree.specs.Tree.{tree}
-use Rattle.tree.specs.Under.{Under}
-use Rattle.tree.proofs.Members.{tree-says, tree-has}
+use Rattle.law_owners.specs.Under.{Under}
+use Rattle.law_owners.proofs.Members.{tree-says, tree-has}
 use Rattle.ending.specs.Remove.{asked, at-rest, inactive, removal, remove, force-remove}
 use Rattle.law_ending.specs.Promise.{ActiveMember}
 use Rattle.law_owners.proofs.Owners.{owners-in-order}

@@ -40,7 +40,7 @@ use Rattle.sound_facts.proofs.Sizes.{Fixed, sizes-kept}
 use Rattle.freeing.specs.Sweep.{named, goes}
 use Rattle.tree.specs.Tree.{tree}
 use Rattle.law_owners.proofs.Owners.{owners-of}
-use Rattle.tree.proofs.Members.{tree-unowned}
+use Rattle.law_owners.proofs.Members.{tree-unowned}
 use Rattle.emptying.specs.Taken.{waits, channels-of}
 use Rattle.ending.specs.Ended.{returned, ended}
 use Rattle.law_ending.proofs.Taken.{going, Taken, taken-tables, taken-above, taken-from, taken-gains, taken-priority}

@@ -16,7 +16,7 @@ use Rattle.picture.specs.declared.Area.{Area}
 use Rattle.picture.specs.declared.Area.the-variants.{Transient}
 use Rattle.blocks.specs.Header.{header-width, size, free, holder}
 use Rattle.blocks.specs.Walk.{blocks}
-use Rattle.tree.specs.Under.{Under}
+use Rattle.law_owners.specs.Under.{Under}
 
 -- the number n names a job in the tree of the job at position t
 pub record Member (p : List ℕ) (t n : ℕ) : Type 0 where

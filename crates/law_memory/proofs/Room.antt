@@ -14,7 +14,7 @@ use Rattle.picture.specs.declared.Area.the-variants.{Heap, Transient}
 use Rattle.blocks.specs.Header.{size, free}
 use Rattle.blocks.specs.Walk.{blocks}
 use Rattle.placing.specs.Place.{longest}
-use Rattle.placing.proofs.Longest.{no-free-block-is-longer, the-longest-is-a-free-block, no-room-above-the-longest, where-there-is-no-room-the-longest-is-shorter}
+use Rattle.law_placing.proofs.Longest.{no-free-block-is-longer, the-longest-is-a-free-block, no-room-above-the-longest, where-there-is-no-room-the-longest-is-shorter}
 use Rattle.rooms.specs.Room.{block-length}
 use Rattle.rooms.proofs.Room.{Without}
 use Rattle.calls.specs.Call.{outcome}

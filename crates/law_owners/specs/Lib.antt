@@ -1,1 +1,2 @@
--- The laws stand in proofs/: this crate has no definitions.
+-- The definitions that the laws cite.
+pub mod Under

@@ -1,1 +1,1 @@
-// What soundness says of owners: laws only.
+// What soundness says of owners, and of the trees that they make: laws only.

@@ -20,7 +20,7 @@ use Rattle.sound_facts.proofs.View.{view}
 use Rattle.sound_facts.proofs.Ages.{Ages, ages-still, ages-then, stays-dead}
 use Rattle.fresh.specs.Fresh.{fresh, fresh-good}
 use Rattle.fresh.proofs.Good.{sizes}
-use Rattle.fresh.proofs.Sound.{fresh-is-sound}
+use Rattle.law_fresh.proofs.Sound.{fresh-is-sound}
 use Rattle.calls.specs.Outcome.{Outcome, refuse}
 use Rattle.calls.specs.Call.{outcome}
 use Rattle.traps.specs.Traps.{named}

@@ -1,3 +1,2 @@
 -- Laws of the definitions of specs/.
 pub mod Digits
-pub mod Examples

@@ -1,4 +1,3 @@
 -- The definitions that the contracts cite.
-pub mod Back
 pub mod Frames
 pub mod Feeds

@@ -3,4 +3,3 @@ pub mod Holds
 pub mod Room
 pub mod Halves
 pub mod Fused
-pub mod Worked

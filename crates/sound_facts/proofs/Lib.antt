@@ -5,3 +5,4 @@ pub mod Same
 pub mod Ages
 pub mod Jobs
 pub mod Sizes
+pub mod Worked

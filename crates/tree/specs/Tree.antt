@@ -10,7 +10,7 @@ use Rattle.picture.specs.declared.Table.the-variants.{Jobs}
 use Rattle.masks.specs.Masks.{mask}
 
 -- From position k one reaches position t by at most n owners, by their positions. In a sound picture an owner's whole number is that of the job at its position,
--- so that this is the tree in words: `in-tree-says` and `in-tree-has` (proofs/Members.antt).
+-- so that this is the tree in words: `in-tree-says` and `in-tree-has` (law_owners/proofs/Members.antt).
 unfoldable pub climbs : ℕ → List ℕ → ℕ → ℕ → Bool
 climbs zero p t k = eqb k t
 climbs (suc n) p t k = eqb k t || (not (eqb (owner p Jobs k) nobody) && climbs n p t (position (owner p Jobs k)))

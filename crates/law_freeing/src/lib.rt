@@ -1,0 +1,1 @@
+// What giving blocks back leaves, one block in the words of document 01: laws only.

@@ -1,0 +1,2 @@
+-- What a fresh picture is.
+pub mod Sound

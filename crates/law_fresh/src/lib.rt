@@ -1,0 +1,1 @@
+// A fresh picture is sound: laws only.

@@ -1,0 +1,3 @@
+-- What is written is read back, and lines worked out.
+pub mod Same
+pub mod Cases

@@ -1,0 +1,2 @@
+-- The definitions that the laws cite.
+pub mod Back

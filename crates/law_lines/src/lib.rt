@@ -1,0 +1,1 @@
+// What is written is read back, and lines worked out: laws only.

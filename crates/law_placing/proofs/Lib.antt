@@ -1,0 +1,6 @@
+-- What placing a block leaves, and which free block is the longest.
+pub mod Longest
+pub mod Written
+pub mod Placed
+pub mod Outcome
+pub mod Example

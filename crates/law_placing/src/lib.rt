@@ -1,0 +1,1 @@
+// What placing a block leaves: laws only.
