@@ -24,10 +24,9 @@ use Rattle.jobs.specs.Calls.{set-priority}
 use Rattle.opening.specs.Calls.{open-channel}
 use Rattle.law_picks.specs.Bench.{DeskBench}
 use Rattle.law_picks.proofs.Bench.{desk-bench}
-use Rattle.traps.specs.Traps.{trap-one, trap-two, named}
+use Rattle.traps.specs.Traps.{trap-one, trap-two, call-named}
 use Rattle.manager.specs.Door.{checked, called}
-use Rattle.names.specs.Names.{key-of, number-in, letter, pipe, digit, number, numbered}
-use Rattle.names.specs.Names.{good as good-name, named as name-read}
+use Rattle.names.specs.Names.{key-of, good, number-in, letter, pipe, digit, number, numbered, named}
 
 -- a call, and the key, D1 and A0 that it answers
 record Case : Type 0 where
@@ -102,7 +101,7 @@ cases =
 
 -- "Positions 0, 1, 2 ready at 32, 64, 127, all accumulated 0: picks 0, 2, 1, 2, 0, 1, 2, 0."
 pub table : Answered cases × DeskBench
-unfolding computed fresh clear lowest-clear free-position header fits chosen split placed longer longest with-bit job-at answer meant longest-room length-good room-registers taken take has-position has-tag recorded counted entered owner-found created job-registers create naming prioritized set-priority open-channel trap-one trap-two named checked called key-of number-in letter pipe digit number numbered good-name name-read outcome with-members
+unfolding computed fresh clear lowest-clear free-position header fits chosen split placed longer longest with-bit job-at answer meant longest-room length-good room-registers taken take has-position has-tag recorded counted entered owner-found created job-registers create naming prioritized set-priority open-channel trap-one trap-two call-named checked called key-of number-in letter pipe digit number numbered good named outcome with-members
 table = (
   ((refl, (refl, refl)), ((refl, (refl, refl)), ((refl, (refl, refl)), ((refl, (refl, refl)), ((refl, (refl, refl)), ((refl, (refl, refl)), ((refl, (refl, refl)), ((refl, (refl, refl)), ((refl, (refl, refl)), ((refl, (refl, refl)), ((refl, (refl, refl)), ((refl, (refl, refl)), tt)))))))))))),
   desk-bench,

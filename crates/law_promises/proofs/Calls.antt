@@ -16,7 +16,7 @@ use Rattle.ending.specs.Remove.{remove, force-remove}
 use Rattle.memory.specs.Memory.{longest-room, take, give-back}
 use Rattle.opening.specs.Calls.{open-channel}
 use Rattle.channels.specs.Calls.{close-channel, pending, fetch, send}
-use Rattle.traps.specs.Traps.{among, unknown, calls-one, calls-two, calls-three, trap-one, trap-two, trap-three, traps, named}
+use Rattle.traps.specs.Traps.{among, unknown, calls-one, calls-two, calls-three, trap-one, trap-two, trap-three, traps, call-named}
 
 -- P holds of each call of a list where its number is n
 abbrev Behind : (Call → Type 0) → ℕ → List (ℕ × Call) → Type 0
@@ -52,8 +52,8 @@ pub record EachCall (trap : ℕ) (p d name : List ℕ) (P : Outcome → Type 0) 
   pub sends : P (outcome send p d)
   pub refuses : P (refuse bad-parameter p d)
 
-pub each-call : (P : Outcome → Type 0) (trap : ℕ) (p d name : List ℕ) → EachCall trap p d name P → P (outcome (named trap name) p d)
-unfolding named trap-one trap-two trap-three outcome
+pub each-call : (P : Outcome → Type 0) (trap : ℕ) (p d name : List ℕ) → EachCall trap p d name P → P (outcome (call-named trap name) p d)
+unfolding call-named trap-one trap-two trap-three outcome
 each-call P trap p d name c =
     among-by Q trap (traps (word d 0) name) unknown (
       (λ t. among-by Q (word d 0) calls-one unknown (

@@ -13,7 +13,7 @@ use Rattle.calls.specs.Outcome.{Outcome, refuse, Meets}
 use Rattle.calls.specs.Call.{outcome}
 use Rattle.calls.specs.Registers.{caller}
 use Rattle.calls.proofs.Call.{refusal-changes-nothing}
-use Rattle.traps.specs.Traps.{named}
+use Rattle.traps.specs.Traps.{call-named}
 use Rattle.manager.specs.Door.{checked, with-key, called}
 use Rattle.manager.specs.Turn.{pick-picture, ticking}
 use Rattle.turns.specs.Pick.{picked}
@@ -35,11 +35,11 @@ use Rattle.law_queues.proofs.Kept.{pending-keeps-sound, fetch-keeps-sound, send
 -- the checks before a call
 module _ (trap : ℕ) (p d name : List ℕ) where
   -- what holds of every refusal and of the call named holds of the checked call
-  pub checked-by : (P : Outcome → Type 0) → P (refuse not-sound p d) → P (refuse invalid-job p d) → (sound p ≡ true → (caller p ≡ nobody → ⊥) → P (outcome (named trap name) p d)) → P (outcome (checked trap name) p d)
+  pub checked-by : (P : Outcome → Type 0) → P (refuse not-sound p d) → P (refuse invalid-job p d) → (sound p ≡ true → (caller p ≡ nobody → ⊥) → P (outcome (call-named trap name) p d)) → P (outcome (checked trap name) p d)
   unfolding checked outcome
   checked-by P a b c = go (sound p) refl (eqb (caller p) nobody) refl
     where
-      go : (s : Bool) → sound p ≡ s → (n : Bool) → eqb (caller p) nobody ≡ n → P (cond s (cond (not n) (outcome (named trap name) p d) (refuse invalid-job p d)) (refuse not-sound p d))
+      go : (s : Bool) → sound p ≡ s → (n : Bool) → eqb (caller p) nobody ≡ n → P (cond s (cond (not n) (outcome (call-named trap name) p d) (refuse invalid-job p d)) (refuse not-sound p d))
       go true s true n = b
       go true s false n = c s (eqb-false (caller p) nobody n)
       go false s n m = a

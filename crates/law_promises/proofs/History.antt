@@ -23,7 +23,6 @@ use Rattle.fresh.proofs.Good.{sizes}
 use Rattle.law_fresh.proofs.Sound.{fresh-is-sound}
 use Rattle.calls.specs.Outcome.{Outcome, refuse}
 use Rattle.calls.specs.Call.{outcome}
-use Rattle.traps.specs.Traps.{named}
 use Rattle.manager.specs.Door.{checked, with-key, called}
 use Rattle.manager.specs.Turn.{pick-picture, ticking}
 use Rattle.law_turns.proofs.Pick.{pick-ages}

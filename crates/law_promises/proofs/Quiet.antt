@@ -11,7 +11,6 @@ use Rattle.picture.specs.declared.Table.the-variants.{Jobs}
 use Rattle.sound.specs.Sound.{sound}
 use Rattle.calls.specs.Outcome.{Outcome, refuse}
 use Rattle.calls.specs.Call.{outcome}
-use Rattle.traps.specs.Traps.{named}
 use Rattle.manager.specs.Door.{checked, with-key, called}
 use Rattle.law_picks.specs.Stretch.{Stands, Quiet}
 use Rattle.law_picks.proofs.Quiet.{nothing-is-quiet}

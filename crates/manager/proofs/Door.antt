@@ -15,7 +15,7 @@ use Rattle.sound.specs.Sound.{sound}
 use Rattle.calls.specs.Outcome.{Outcome, refuse, Meets}
 use Rattle.calls.specs.Call.{outcome}
 use Rattle.calls.specs.Registers.{caller}
-use Rattle.traps.specs.Traps.{trap-one, trap-two, trap-three, named}
+use Rattle.traps.specs.Traps.{trap-one, trap-two, trap-three, call-named}
 use Rattle.manager.specs.Door.{checked, with-key, called}
 
 module _ (trap : ℕ) (p d name : List ℕ) where
@@ -27,24 +27,24 @@ module _ (trap : ℕ) (p d name : List ℕ) where
   unfolding checked outcome
   checked-nobody s n = rw (s, eq-eqb (caller p) nobody n)
 
-  pub checked-named : sound p ≡ true → (caller p ≡ nobody → ⊥) → outcome (checked trap name) p d ≡ outcome (named trap name) p d
+  pub checked-named : sound p ≡ true → (caller p ≡ nobody → ⊥) → outcome (checked trap name) p d ≡ outcome (call-named trap name) p d
   unfolding checked outcome
   checked-named s n = rw (s, ne-eqb (caller p) nobody n)
 
-  pub named-one : trap ≡ 1 → outcome (named trap name) p d ≡ outcome (trap-one (word d 0)) p d
-  unfolding named outcome
+  pub named-one : trap ≡ 1 → outcome (call-named trap name) p d ≡ outcome (trap-one (word d 0)) p d
+  unfolding call-named outcome
   named-one e = rw e
 
-  pub named-two : trap ≡ 2 → outcome (named trap name) p d ≡ outcome (trap-two (word d 0) name) p d
-  unfolding named outcome
+  pub named-two : trap ≡ 2 → outcome (call-named trap name) p d ≡ outcome (trap-two (word d 0) name) p d
+  unfolding call-named outcome
   named-two e = rw e
 
-  pub named-three : trap ≡ 3 → outcome (named trap name) p d ≡ outcome (trap-three (word d 0)) p d
-  unfolding named outcome
+  pub named-three : trap ≡ 3 → outcome (call-named trap name) p d ≡ outcome (trap-three (word d 0)) p d
+  unfolding call-named outcome
   named-three e = rw e
 
-  pub named-unknown : (trap ≡ 1 → ⊥) → (trap ≡ 2 → ⊥) → (trap ≡ 3 → ⊥) → outcome (named trap name) p d ≡ refuse bad-parameter p d
-  unfolding named outcome
+  pub named-unknown : (trap ≡ 1 → ⊥) → (trap ≡ 2 → ⊥) → (trap ≡ 3 → ⊥) → outcome (call-named trap name) p d ≡ refuse bad-parameter p d
+  unfolding call-named outcome
   named-unknown a b c = rw (ne-eqb trap 1 a, ne-eqb trap 2 b, ne-eqb trap 3 c)
 
   pub called-otherwise : (length d ≡ 8 → ⊥) → called trap p d name ≡ refuse bad-parameter p d

@@ -13,16 +13,16 @@ use Rattle.sound.specs.Sound.{sound}
 use Rattle.calls.specs.Outcome.{Outcome, refuse}
 use Rattle.calls.specs.Call.{Call, outcome}
 use Rattle.calls.specs.Registers.{caller}
-use Rattle.traps.specs.Traps.{named}
+use Rattle.traps.specs.Traps.{call-named}
 
 -- the picture, then nobody current, then the call's own checks
 unfoldable pub checked : ℕ → List ℕ → Call
 checked trap name p d = record {
   checks =
       (sound p, not-sound) ∷
-      (not (eqb (caller p) nobody), invalid-job) ∷ named trap name p d .checks;
-  picture = named trap name p d .picture;
-  registers = named trap name p d .registers;
+      (not (eqb (caller p) nobody), invalid-job) ∷ call-named trap name p d .checks;
+  picture = call-named trap name p d .picture;
+  registers = call-named trap name p d .registers;
 }
 
 -- D0 gets the key

@@ -61,5 +61,5 @@ abbrev pub traps : ℕ → List ℕ → List (ℕ × Call)
 traps code name = (1, trap-one code) ∷ (2, trap-two code name) ∷ (3, trap-three code) ∷ []
 
 -- the call that a trap number and D0 name
-unfoldable pub named : ℕ → List ℕ → Call
-named trap name p d = among trap (traps (word d 0) name) unknown p d
+unfoldable pub call-named : ℕ → List ℕ → Call
+call-named trap name p d = among trap (traps (word d 0) name) unknown p d
