@@ -1,2 +1,2 @@
--- What a fresh picture is.
+-- A fresh picture is sound.
 pub mod Sound
