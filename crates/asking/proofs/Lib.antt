@@ -2,5 +2,3 @@
 pub mod Next
 pub mod Bounds
 pub mod Call
-pub mod Members
-pub mod Bench

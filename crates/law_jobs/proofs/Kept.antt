@@ -36,7 +36,7 @@ use Rattle.law_steady.proofs.Steady.{Steady, Alike, steady-ages, steady-live, s
 use Rattle.law_steady.proofs.Writes.{Written, steady-current, written-sound, written-nobody-sound, nobody-sound}
 use Rattle.effects.specs.Effects.{suspended, released, low-byte, prioritized, may-wait, endless, waiting}
 use Rattle.jobs.specs.Calls.{job, job-position, information, suspend, release, activate, set-priority}
-use Rattle.jobs.proofs.Passed.{suspend-ways, release-ways, activate-ways, set-priority-ways}
+use Rattle.law_jobs.proofs.Passed.{suspend-ways, release-ways, activate-ways, set-priority-ways}
 use Rattle.law_jobs.proofs.Effects.{suspended-written, suspended-turning, released-written, released-turning, prioritized-written, prioritized-turning, prioritized-current, awaiting-written, awaiting-turning}
 
 nobody-ages : (p q : List ℕ) → Steady p q → (t : Table) → Ages p (with-nobody q) t

@@ -35,7 +35,7 @@ use Rattle.law_steady.proofs.Steady.{Steady, steady-used}
 use Rattle.law_steady.proofs.Writes.{field-kept, field-written, field-nobody, Written, written-none, written-field}
 use Rattle.effects.specs.Effects.{suspends, suspended, released, prioritized, endless, waiting}
 use Rattle.jobs.specs.Calls.{job, job-position, information, suspend, release, activate, set-priority}
-use Rattle.jobs.proofs.Passed.{suspend-ways, release-ways, activate-ways, set-priority-ways}
+use Rattle.law_jobs.proofs.Passed.{suspend-ways, release-ways, activate-ways, set-priority-ways}
 use Rattle.law_jobs.proofs.Effects.{suspended-written, prioritized-written}
 use Rattle.asking.specs.Ask.{ask}
 use Rattle.asking.proofs.Call.{ask-leaves-the-picture}

@@ -1,0 +1,1 @@
+-- What $2 answers, and for whom: this crate has laws only.
