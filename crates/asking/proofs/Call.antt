@@ -14,7 +14,6 @@ use Rattle.calls.proofs.Call.{of-each-way}
 use Rattle.calls.specs.Registers.{D1, D2, meant}
 use Rattle.picture.specs.declared.JobFound.the-variants.{At, Dead}
 use Rattle.tree.specs.Tree.{in-tree}
-use Rattle.calls.proofs.Found.{job-found}
 use Rattle.asking.specs.Ask.{answered, ask}
 
 -- the ways out, as the code takes them
@@ -30,17 +29,11 @@ module _ (p d : List ℕ) where
   module _ (t k : ℕ) (a : job-at p (D2 d) ≡ At t) (b : job-at p (meant p (D1 d)) ≡ At k) where
     pub ask-outside : in-tree p t k ≡ false → outcome ask p d ≡ refuse invalid-job p d
     unfolding ask outcome
-    ask-outside c =
-        let x = job-found p (D2 d) t a in
-        let y = job-found p (meant p (D1 d)) k b in
-        rw (a, b, x .place, y .place, c)
+    ask-outside c = rw (a, b, c)
 
     pub ask-answers : in-tree p t k ≡ true → (e : List ℕ) → e ≡ answered p d t k → outcome ask p d ≡ succeed p e
     unfolding ask outcome
-    ask-answers c e q =
-        let x = job-found p (D2 d) t a in
-        let y = job-found p (meant p (D1 d)) k b in
-        rw (a, b, x .place, y .place, c, q)
+    ask-answers c e q = rw (a, b, c, q)
 
 pub ask-leaves-the-picture : (p d : List ℕ) → outcome ask p d .picture ≡ p
 unfolding ask

@@ -18,7 +18,7 @@ use Rattle.picture.specs.declared.ChannelFound.{ChannelFound}
 use Rattle.picture.specs.declared.ChannelFound.the-variants as channel
 use Rattle.picture.proofs.Records.{used-below}
 use Rattle.picture.proofs.Numbers.{live-is}
-use Rattle.calls.specs.Found.{job-check, job-place, channel-check, channel-place}
+use Rattle.calls.specs.Found.{job-check, channel-check, place-of-job, place-of-channel}
 
 -- the number n names the live entry at position k of the table
 pub record Found (p : List ℕ) (t : Table) (n k : ℕ) : Type 0 where
@@ -58,12 +58,12 @@ module _ (p : List ℕ) (n : ℕ) where
       go true l e = found-by p Channels n k l cc
       go false l e = absurd (let z : _≡_ {A = ℕ} 0 1 = cc in omega arith)
 
-  -- what is found stands at the number's position
-  pub job-stands : live p Jobs n ≡ true → job-place (job-at p n) ≡ position n
+  -- a live number's place is its position
+  pub job-stands : live p Jobs n ≡ true → place-of-job p n ≡ position n
   unfolding job-at
   job-stands h = rw h
 
-  pub channel-stands : live p Channels n ≡ true → channel-place (channel-at p n) ≡ position n
+  pub channel-stands : live p Channels n ≡ true → place-of-channel p n ≡ position n
   unfolding channel-at
   channel-stands h = rw h
 

@@ -2,7 +2,9 @@
 -- A dead number is refused, and 0 stands for its position.
 use Prim.Native.Nat.{ℕ}
 use mathlib.Core.Bool.{true, false}
+use mathlib.Core.List.{List}
 use Rattle.picture.specs.Keys.{done, invalid-job, channel-not-open}
+use Rattle.picture.specs.Numbers.{job-at, channel-at}
 use Rattle.picture.specs.declared.JobFound.{JobFound}
 use Rattle.picture.specs.declared.JobFound.the-variants as job
 use Rattle.picture.specs.declared.ChannelFound.{ChannelFound}
@@ -24,3 +26,10 @@ channel-check channel.Dead = (false, channel-not-open)
 abbrev pub channel-place : ChannelFound → ℕ
 channel-place (channel.At k) = k
 channel-place channel.Dead = 0
+
+-- where the job that n names stands, and the channel that n names
+abbrev pub place-of-job : List ℕ → ℕ → ℕ
+place-of-job p n = job-place (job-at p n)
+
+abbrev pub place-of-channel : List ℕ → ℕ → ℕ
+place-of-channel p n = channel-place (channel-at p n)

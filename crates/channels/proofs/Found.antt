@@ -89,3 +89,7 @@ used-queue p S k u = subst (Held p k) z (record {
 -- so has every live channel
 pub live-queue : (p : List ℕ) (n : ℕ) → sound p ≡ true → live p Channels n ≡ true → Held p (position n) (queue-of p (position n))
 live-queue p n s l = used-queue p (view p s) (position n) (live-is p Channels n l .used)
+
+-- and the channel that a number names
+pub named-queue : (p : List ℕ) (n k : ℕ) → sound p ≡ true → Named p n k → Held p k (queue-of p k)
+named-queue p n k s f = subst (λ (j : ℕ). Held p j (queue-of p j)) (f .place) (live-queue p n s (f .lives))

@@ -3,22 +3,22 @@ use Prim.Native.Nat.{ℕ, _%_}
 use mathlib.Core.Bool.{not}
 use mathlib.Core.List.{List, [], _∷_}
 use Rattle.picture.specs.Keys.{not-complete, bad-parameter}
-use Rattle.picture.specs.Numbers.{position, channel-at}
+use Rattle.picture.specs.Numbers.{channel-at}
 use Rattle.calls.specs.Call.{Check, Call}
-use Rattle.calls.specs.Found.{channel-check}
+use Rattle.calls.specs.Found.{channel-check, place-of-channel}
 use Rattle.calls.specs.Registers.{D1, A0, with-D1}
 use Rattle.queues.specs.Ring.{waits, full, oldest-byte, fetched, sent}
 use Rattle.channels.specs.Effects.{queue-of, closed, immediate}
 
 -- the queue of the channel that A0 names
 abbrev pub queue-named : List ℕ → List ℕ → ℕ
-queue-named p d = queue-of p (position (A0 d))
+queue-named p d = queue-of p (place-of-channel p (A0 d))
 
 -- "Trap 2 $2: channel A0; its block is freed."
 unfoldable pub close-channel : Call
 close-channel p d = record {
   checks = channel-check (channel-at p (A0 d)) ∷ [];
-  picture = closed p (position (A0 d));
+  picture = closed p (place-of-channel p (A0 d));
   registers = d;
 }
 

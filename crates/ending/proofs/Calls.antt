@@ -16,7 +16,6 @@ use Rattle.calls.specs.Outcome.{refuse, succeed}
 use Rattle.calls.specs.Call.{outcome}
 use Rattle.calls.specs.Registers.{D1, D3, cleared, meant}
 use Rattle.tree.specs.Tree.{tree}
-use Rattle.calls.proofs.Found.{job-found}
 use Rattle.ending.specs.Ended.{ended}
 use Rattle.ending.specs.Remove.{inactive, removal, remove, force-remove}
 
@@ -36,20 +35,20 @@ module _ (p d : List ℕ) where
   module _ (t : ℕ) (a : job-at p (meant p (D1 d)) ≡ At t) where
     pub remove-job-0 : t ≡ 0 → outcome remove p d ≡ refuse bad-parameter p d
     unfolding remove removal outcome
-    remove-job-0 z = let f = job-found p (meant p (D1 d)) t a in rw (a, f .place, eq-eqb t 0 z)
+    remove-job-0 z = rw (a, eq-eqb t 0 z)
 
     pub remove-active : (t ≡ 0 → ⊥) → inactive p (tree p t) ≡ false → outcome remove p d ≡ refuse not-complete p d
     unfolding remove removal outcome
-    remove-active z i = let f = job-found p (meant p (D1 d)) t a in rw (a, f .place, ne-eqb t 0 z, i)
+    remove-active z i = rw (a, ne-eqb t 0 z, i)
 
     pub remove-ends : (t ≡ 0 → ⊥) → inactive p (tree p t) ≡ true → (q e : List ℕ) → q ≡ ended p t (D3 d) → e ≡ cleared d → outcome remove p d ≡ succeed q e
     unfolding remove removal outcome
-    remove-ends z i q e x y = let f = job-found p (meant p (D1 d)) t a in rw (a, f .place, ne-eqb t 0 z, i, x, y)
+    remove-ends z i q e x y = rw (a, ne-eqb t 0 z, i, x, y)
 
     pub force-remove-job-0 : t ≡ 0 → outcome force-remove p d ≡ refuse bad-parameter p d
     unfolding force-remove removal outcome
-    force-remove-job-0 z = let f = job-found p (meant p (D1 d)) t a in rw (a, f .place, eq-eqb t 0 z)
+    force-remove-job-0 z = rw (a, eq-eqb t 0 z)
 
     pub force-remove-ends : (t ≡ 0 → ⊥) → (q e : List ℕ) → q ≡ ended p t (D3 d) → e ≡ cleared d → outcome force-remove p d ≡ succeed q e
     unfolding force-remove removal outcome
-    force-remove-ends z q e x y = let f = job-found p (meant p (D1 d)) t a in rw (a, f .place, ne-eqb t 0 z, x, y)
+    force-remove-ends z q e x y = rw (a, ne-eqb t 0 z, x, y)

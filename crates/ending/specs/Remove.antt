@@ -7,11 +7,11 @@ use Rattle.words.specs.Bits.{bit}
 use Rattle.words.specs.Each.{every}
 use Rattle.picture.specs.Layout.{positions}
 use Rattle.picture.specs.Records.{active}
-use Rattle.picture.specs.Numbers.{position, job-at}
+use Rattle.picture.specs.Numbers.{job-at}
 use Rattle.picture.specs.Keys.{not-complete, bad-parameter}
 use Rattle.picture.specs.declared.Table.the-variants.{Jobs}
 use Rattle.calls.specs.Call.{Check, Call}
-use Rattle.calls.specs.Found.{job-check}
+use Rattle.calls.specs.Found.{job-check, place-of-job}
 use Rattle.calls.specs.Registers.{D1, D3, cleared, meant}
 use Rattle.tree.specs.Tree.{tree}
 use Rattle.ending.specs.Ended.{ended}
@@ -24,9 +24,9 @@ at-rest p m k = not (bit m k && active p k)
 unfoldable pub inactive : List ℕ → ℕ → Bool
 inactive p m = every (at-rest p m) (positions Jobs)
 
--- the job that D1 means, by its position
+-- where the job that D1 means stands
 abbrev pub asked : List ℕ → List ℕ → ℕ
-asked p d = position (meant p (D1 d))
+asked p d = place-of-job p (meant p (D1 d))
 
 -- what both are, where `still` is what $4 checks besides
 unfoldable pub removal : List Check → Call

@@ -8,6 +8,7 @@ use Rattle.picture.specs.declared.Table.the-variants.{Jobs}
 use Rattle.picture.specs.declared.JobFound.{JobFound}
 use Rattle.picture.specs.declared.JobFound.the-variants.{At, Dead}
 use Rattle.calls.specs.Registers.{D1, meant}
+use Rattle.calls.specs.Found.{job-place}
 use Rattle.calls.proofs.Found.{job-found}
 use Rattle.jobs.specs.Calls.{job, job-position}
 
@@ -26,7 +27,7 @@ module _ (p d : List ℕ) (w m : ℕ) (r : JobFound) (reads : w ≡ D1 d) (means
   found k e =
       let f = sym (finds ∙ ap (job-at p) named) ∙ e in
       let a = job-found p (job p d) k f in
-      record { means = named; finds = f; placed = sym (a .place); below = a .within }
+      record { means = named; finds = f; placed = sym (ap job-place f); below = a .within }
 
   pub lost : r ≡ Dead → job-at p (job p d) ≡ Dead
   lost e = sym (finds ∙ ap (job-at p) named) ∙ e

@@ -83,12 +83,9 @@ module _ (p d : List ℕ) where
 
     -- $A
     module _ (b : Bool) (acts : b ≡ active p k) where
-      acting : active p (job-position p d) ≡ b
-      acting = ap (active p) (sym (F .placed)) ∙ sym acts
-
       pub activate-active : b ≡ true → Meets (outcome activate p d) not-complete p d
       unfolding activate outcome
-      activate-active h = meets-refuse _ not-complete p d (rw (F .finds, acting ∙ h))
+      activate-active h = meets-refuse _ not-complete p d (rw (F .finds, sym acts ∙ h))
 
       module _ (w : ℕ) (reads : w ≡ D2 d) (idle : b ≡ false) where
         activity : leb 1 (w % 256) && leb (w % 256) greatest-priority ≡ activity-good (low-byte (D2 d))
@@ -96,7 +93,7 @@ module _ (p d : List ℕ) where
 
         pub activate-bad : not (leb 1 (w % 256) && leb (w % 256) greatest-priority) ≡ true → Meets (outcome activate p d) bad-parameter p d
         unfolding activate outcome
-        activate-bad h = meets-refuse _ bad-parameter p d (rw (F .finds, acting ∙ idle, sym activity ∙ not-true _ h))
+        activate-bad h = meets-refuse _ bad-parameter p d (rw (F .finds, sym acts ∙ idle, sym activity ∙ not-true _ h))
 
         module _ (t : Timeout) (s : Bool) (times : t ≡ timeout-in (D3 d)) (tests : s ≡ may-wait t m) (good : not (leb 1 (w % 256) && leb (w % 256) greatest-priority) ≡ false) where
           activate-test : s ≡ may-wait (timeout-in (D3 d)) (job p d)
@@ -104,11 +101,11 @@ module _ (p d : List ℕ) where
 
           pub activate-bad-wait : not s ≡ true → Meets (outcome activate p d) bad-parameter p d
           unfolding activate outcome
-          activate-bad-wait h = meets-refuse _ bad-parameter p d (rw (F .finds, acting ∙ idle, sym activity ∙ not-false _ good, sym activate-test ∙ not-true _ h))
+          activate-bad-wait h = meets-refuse _ bad-parameter p d (rw (F .finds, sym acts ∙ idle, sym activity ∙ not-false _ good, sym activate-test ∙ not-true _ h))
 
           pub activate-done : (q e : List ℕ) → not s ≡ false → q ≡ with-nobody (waiting (prioritized p k (w % 256)) t (position (caller p)) m) → e ≡ naming m k d → Meets (outcome activate p d) done q e
           unfolding activate outcome
           activate-done q e h l g = meets-done _ (with-nobody (waiting (prioritized p (job-position p d) (low-byte (D2 d))) (timeout-in (D3 d)) (position (caller p)) (job p d))) (naming (job p d) (job-position p d) d) q e
-              (rw (F .finds, acting ∙ idle, sym activity ∙ not-false _ good, sym activate-test ∙ not-false _ h))
+              (rw (F .finds, sym acts ∙ idle, sym activity ∙ not-false _ good, sym activate-test ∙ not-false _ h))
               (l ∙ rw (F .placed, reads, times, F .means))
               (g ∙ names)

@@ -14,14 +14,14 @@ use Rattle.calls.specs.Outcome.{Outcome, refuse, succeed}
 use Rattle.calls.specs.Call.{outcome}
 use Rattle.calls.specs.Registers.{A0}
 use Rattle.calls.proofs.Call.{of-each-way}
-use Rattle.calls.proofs.Found.{channel-that-passes-is-live, dead-channel-fails}
+use Rattle.calls.proofs.Found.{channel-stands, channel-that-passes-is-live, dead-channel-fails}
 use Rattle.channels.specs.Effects.{closed}
 use Rattle.channels.specs.Calls.{close-channel}
 use Rattle.law_channels.proofs.Closed.{closed-sound, closed-ages}
 
 pub close-channel-ways : (P : Outcome → Type 0) (p d : List ℕ) → ((k : ℤ) → P (refuse k p d)) → (live p Channels (A0 d) ≡ true → P (succeed (closed p (position (A0 d))) d)) → P (outcome close-channel p d)
 unfolding close-channel
-close-channel-ways P p d refused f = of-each-way close-channel p d P refused (λ h. f (channel-that-passes-is-live p (A0 d) (search)))
+close-channel-ways P p d refused f = of-each-way close-channel p d P refused (λ h. let l = channel-that-passes-is-live p (A0 d) (search) in rw (channel-stands p (A0 d) l) (f l))
 
 -- a dead channel's number answers -6
 pub close-channel-dead : (p d : List ℕ) → live p Channels (A0 d) ≡ false → outcome close-channel p d ≡ refuse channel-not-open p d

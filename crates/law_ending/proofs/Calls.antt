@@ -22,7 +22,7 @@ use Rattle.calls.specs.Outcome.{Outcome, refuse, succeed}
 use Rattle.calls.specs.Call.{Check, outcome}
 use Rattle.calls.specs.Registers.{D1, D3, cleared, meant}
 use Rattle.calls.proofs.Call.{of-each-way}
-use Rattle.calls.proofs.Found.{job-that-passes-is-live}
+use Rattle.calls.proofs.Found.{job-stands, job-that-passes-is-live}
 use Rattle.tree.specs.Tree.{tree}
 use Rattle.emptying.specs.Taken.{channels-of}
 use Rattle.ending.specs.Ended.{ended}
@@ -36,7 +36,9 @@ module _ (p d : List ℕ) (P : Outcome → Type 0) (refused : (k : ℤ) → P (r
   of-removal : (still : List Check) → P (outcome (removal still) p d)
   unfolding removal
   of-removal still = of-each-way (removal still) p d P refused
-      (λ h. ends (live-is p Jobs (meant p (D1 d)) (job-that-passes-is-live p (meant p (D1 d)) (search)) .used) (eqb-false (asked p d) 0 (not-true (eqb (asked p d) 0) (search))))
+      (λ h.
+      let l = job-that-passes-is-live p (meant p (D1 d)) (search) in
+      ends (rw (job-stands p (meant p (D1 d)) l) (live-is p Jobs (meant p (D1 d)) l .used)) (eqb-false (asked p d) 0 (not-true (eqb (asked p d) 0) (search))))
 
   pub of-remove : P (outcome remove p d)
   unfolding remove outcome

@@ -18,8 +18,8 @@ use Rattle.sound_facts.proofs.View.{view}
 use Rattle.calls.specs.Outcome.{refuse}
 use Rattle.calls.specs.Call.{outcome}
 use Rattle.calls.specs.Registers.{caller}
-use Rattle.calls.proofs.Found.{live-job-passes}
-use Rattle.jobs.specs.Calls.{job, job-position, activate}
+use Rattle.calls.proofs.Found.{job-stands, live-job-passes}
+use Rattle.jobs.specs.Calls.{job, activate}
 
 -- the caller activating itself is -1: "longword 1 is nobody or a ready job", and a ready job is active
 pub caller-activating-itself-is-refused : (p d : List ℕ) → sound p ≡ true → (caller p ≡ nobody → ⊥) → job p d ≡ caller p → outcome activate p d ≡ refuse not-complete p d
@@ -28,6 +28,6 @@ caller-activating-itself-is-refused p d h n e = ⊎-elim
     (λ z. absurd (n z))
     (λ (z : (live p Jobs (caller p) ≡ true) × (ready p (position (caller p)) ≡ true)).
     let l : live p Jobs (job p d) ≡ true = subst (λ (x : ℕ). live p Jobs x ≡ true) (sym e) (z .0) in
-    let a : leb 1 (priority p (job-position p d)) ≡ true = subst (λ (x : ℕ). leb 1 (priority p (position x)) ≡ true) (sym e) (le-leb 1 (priority p (position (caller p))) (ready-has p (position (caller p)) (z .1) .0)) in
-    rw (live-job-passes p (job p d) l, a))
+    let a : leb 1 (priority p (position (job p d))) ≡ true = subst (λ (x : ℕ). leb 1 (priority p (position x)) ≡ true) (sym e) (le-leb 1 (priority p (position (caller p))) (ready-has p (position (caller p)) (z .1) .0)) in
+    rw (live-job-passes p (job p d) l, job-stands p (job p d) l, a))
     (view p h .current)

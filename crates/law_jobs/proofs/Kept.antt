@@ -35,8 +35,8 @@ use Rattle.calls.specs.Writes.{with-nobody}
 use Rattle.law_steady.proofs.Steady.{Steady, Alike, steady-ages, steady-live, steady-used, steady-then}
 use Rattle.law_steady.proofs.Writes.{Written, steady-current, written-sound, written-nobody-sound, nobody-sound}
 use Rattle.effects.specs.Effects.{suspended, released, low-byte, prioritized, may-wait, endless, waiting}
-use Rattle.jobs.specs.Calls.{job, job-position, information, suspend, release, activate, set-priority}
-use Rattle.law_jobs.proofs.Passed.{suspend-ways, release-ways, activate-ways, set-priority-ways}
+use Rattle.jobs.specs.Calls.{job, information, suspend, release, activate, set-priority}
+use Rattle.law_jobs.proofs.Passed.{stand, suspend-ways, release-ways, activate-ways, set-priority-ways}
 use Rattle.law_jobs.proofs.Effects.{suspended-written, suspended-turning, released-written, released-turning, prioritized-written, prioritized-turning, prioritized-current, awaiting-written, awaiting-turning}
 
 nobody-ages : (p q : List ℕ) → Steady p q → (t : Table) → Ages p (with-nobody q) t
@@ -62,12 +62,12 @@ suspend-keeps-sound p d h =
     suspend-ways (λ (o : Outcome). sound (o .picture) ≡ true) p d (λ k. h) (λ lives _.
     let u = at-used p (job p d) lives in
     let t = value (timeout-in (D3 d)) in
-    sound-again _ (written-nobody-sound p (suspended p (job-position p d) t) (job-position p d) S (suspended-written p S (job-position p d) u t) (suspended-turning p S (job-position p d) u t (value-timely (low-half (D3 d))))))
+    sound-again _ (written-nobody-sound p (suspended p (stand p d) t) (stand p d) S (suspended-written p S (stand p d) u t) (suspended-turning p S (stand p d) u t (value-timely (low-half (D3 d))))))
 
 pub suspend-ages : (p d : List ℕ) → sound p ≡ true → (t : Table) → Ages p (outcome suspend p d .picture) t
 suspend-ages p d h t = suspend-ways (λ (o : Outcome). Ages p (o .picture) t) p d (λ k. ages-still p t) (λ lives _.
     let x = value (timeout-in (D3 d)) in
-    nobody-ages p (suspended p (job-position p d) x) (suspended-written p (view p h) (job-position p d) (at-used p (job p d) lives) x .steady) t)
+    nobody-ages p (suspended p (stand p d) x) (suspended-written p (view p h) (stand p d) (at-used p (job p d) lives) x .steady) t)
 
 -- $9
 pub release-keeps-sound : (p d : List ℕ) → sound p ≡ true → sound (outcome release p d .picture) ≡ true
@@ -75,11 +75,11 @@ release-keeps-sound p d h =
     let S = view p h in
     release-ways (λ (o : Outcome). sound (o .picture) ≡ true) p d (λ k. h) (λ lives.
     let u = at-used p (job p d) lives in
-    sound-again _ (written-nobody-sound p (released p (job-position p d)) (job-position p d) S (released-written p S (job-position p d) u) (released-turning p S (job-position p d) u)))
+    sound-again _ (written-nobody-sound p (released p (stand p d)) (stand p d) S (released-written p S (stand p d) u) (released-turning p S (stand p d) u)))
 
 pub release-ages : (p d : List ℕ) → sound p ≡ true → (t : Table) → Ages p (outcome release p d .picture) t
 release-ages p d h t = release-ways (λ (o : Outcome). Ages p (o .picture) t) p d (λ k. ages-still p t) (λ lives.
-    nobody-ages p (released p (job-position p d)) (released-written p (view p h) (job-position p d) (at-used p (job p d) lives) .steady) t)
+    nobody-ages p (released p (stand p d)) (released-written p (view p h) (stand p d) (at-used p (job p d) lives) .steady) t)
 
 -- $B
 pub set-priority-keeps-sound : (p d : List ℕ) → sound p ≡ true → sound (outcome set-priority p d .picture) ≡ true
@@ -88,11 +88,11 @@ set-priority-keeps-sound p d h =
     set-priority-ways (λ (o : Outcome). sound (o .picture) ≡ true) p d (λ k. h) (λ lives good.
     let u = at-used p (job p d) lives in
     let v = low-byte (D2 d) in
-    sound-again _ (written-nobody-sound p (prioritized p (job-position p d) v) (job-position p d) S (prioritized-written p S (job-position p d) u v) (prioritized-turning p S (job-position p d) u v (leb-true v greatest-priority good))))
+    sound-again _ (written-nobody-sound p (prioritized p (stand p d) v) (stand p d) S (prioritized-written p S (stand p d) u v) (prioritized-turning p S (stand p d) u v (leb-true v greatest-priority good))))
 
 pub set-priority-ages : (p d : List ℕ) → sound p ≡ true → (t : Table) → Ages p (outcome set-priority p d .picture) t
 set-priority-ages p d h t = set-priority-ways (λ (o : Outcome). Ages p (o .picture) t) p d (λ k. ages-still p t) (λ lives _.
-    nobody-ages p (prioritized p (job-position p d) (low-byte (D2 d))) (prioritized-written p (view p h) (job-position p d) (at-used p (job p d) lives) (low-byte (D2 d)) .steady) t)
+    nobody-ages p (prioritized p (stand p d) (low-byte (D2 d))) (prioritized-written p (view p h) (stand p d) (at-used p (job p d) lives) (low-byte (D2 d)) .steady) t)
 
 -- $A: the caller is ready and the job named is not active, so they are two
 module _ (p : List ℕ) (S : Sound p) (n v : ℕ) (lives : live p Jobs n ≡ true) (idle : active p (position n) ≡ false) where
@@ -185,5 +185,5 @@ activate-keeps-sound p d h = activate-ways (λ (o : Outcome). sound (o .picture)
 
 pub activate-ages : (p d : List ℕ) → sound p ≡ true → (t : Table) → Ages p (outcome activate p d .picture) t
 activate-ages p d h t = activate-ways (λ (o : Outcome). Ages p (o .picture) t) p d (λ k. ages-still p t) (λ lives idle good _.
-    let q = waiting (prioritized p (job-position p d) (low-byte (D2 d))) (timeout-in (D3 d)) (position (caller p)) (job p d) in
+    let q = waiting (prioritized p (stand p d) (low-byte (D2 d))) (timeout-in (D3 d)) (position (caller p)) (job p d) in
     nobody-ages p q (activated-steady p (view p h) (job p d) (low-byte (D2 d)) lives idle (timeout-in (D3 d)) (good-priority (low-byte (D2 d)) good)) t)

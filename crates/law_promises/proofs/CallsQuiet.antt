@@ -34,19 +34,19 @@ use Rattle.calls.specs.Writes.{with-nobody}
 use Rattle.law_steady.proofs.Steady.{Steady, steady-used}
 use Rattle.law_steady.proofs.Writes.{field-kept, field-written, field-nobody, Written, written-none, written-field}
 use Rattle.effects.specs.Effects.{suspends, suspended, released, prioritized, endless, waiting}
-use Rattle.jobs.specs.Calls.{job, job-position, information, suspend, release, activate, set-priority}
-use Rattle.law_jobs.proofs.Passed.{suspend-ways, release-ways, activate-ways, set-priority-ways}
+use Rattle.jobs.specs.Calls.{job, information, suspend, release, activate, set-priority}
+use Rattle.law_jobs.proofs.Passed.{stand, suspend-ways, release-ways, activate-ways, set-priority-ways}
 use Rattle.law_jobs.proofs.Effects.{suspended-written, prioritized-written}
 use Rattle.asking.specs.Ask.{ask}
 use Rattle.asking.proofs.Call.{ask-leaves-the-picture}
 use Rattle.memory.specs.Memory.{longest-room, taken, take, given-back, give-back}
 use Rattle.law_memory.proofs.Ways.{take-ways, give-back-ways}
 use Rattle.law_memory.proofs.Kept.{taken-tables, given-back-tables}
-use Rattle.channels.specs.Calls.{queue-named, pending, fetch, send}
+use Rattle.channels.specs.Calls.{pending, fetch, send}
 use Rattle.channels.proofs.Found.{live-queue}
 use Rattle.queues.specs.Ring.{fetched, sent}
 use Rattle.law_queues.proofs.Written.{tables}
-use Rattle.law_queues.proofs.Ways.{pending-ways, fetch-ways, send-ways}
+use Rattle.law_queues.proofs.Ways.{queue-there, pending-ways, fetch-ways, send-ways}
 use Rattle.law_queues.proofs.Kept.{fetched-written, sent-written, low-byte}
 use Rattle.law_blocks.proofs.Tables.{TablesSame, field-same}
 use Rattle.law_picks.specs.Stretch.{Quiet, Stands}
@@ -80,12 +80,12 @@ give-back-is-quiet j l p d h = give-back-ways (λ (o : Outcome). Quiet j p (o .p
 pub fetch-is-quiet : (j : ℕ) → j < positions Jobs → (p d : List ℕ) → sound p ≡ true → Quiet j p (outcome fetch p d .picture)
 fetch-is-quiet j l p d s = fetch-ways (λ (o : Outcome). Quiet j p (o .picture)) p d (λ k. nothing-is-quiet j p)
     (λ a b c. let H = live-queue p (A0 d) s a in
-    tables-quiet j l p (fetched p (queue-named p d)) (tables p (fetched p (queue-named p d)) (position (A0 d)) (queue-named p d) (view p s) H (fetched-written p (position (A0 d)) (queue-named p d) H c)))
+    tables-quiet j l p (fetched p (queue-there p d)) (tables p (fetched p (queue-there p d)) (position (A0 d)) (queue-there p d) (view p s) H (fetched-written p (position (A0 d)) (queue-there p d) H c)))
 
 pub send-is-quiet : (j : ℕ) → j < positions Jobs → (p d : List ℕ) → sound p ≡ true → Quiet j p (outcome send p d .picture)
 send-is-quiet j l p d s = send-ways (λ (o : Outcome). Quiet j p (o .picture)) p d (λ k. nothing-is-quiet j p)
     (λ a b c. let H = live-queue p (A0 d) s a in
-    tables-quiet j l p (sent p (queue-named p d) (D1 d % 256)) (tables p (sent p (queue-named p d) (D1 d % 256)) (position (A0 d)) (queue-named p d) (view p s) H (sent-written p (position (A0 d)) (queue-named p d) H (D1 d % 256) (low-byte (D1 d)) c)))
+    tables-quiet j l p (sent p (queue-there p d) (D1 d % 256)) (tables p (sent p (queue-there p d) (D1 d % 256)) (position (A0 d)) (queue-there p d) (view p s) H (sent-written p (position (A0 d)) (queue-there p d) H (D1 d % 256) (low-byte (D1 d)) c)))
 
 -- nobody becomes current
 nobody-quiet : (j : ℕ) (p q : List ℕ) → Quiet j p q → Quiet j p (with-nobody q)
@@ -129,7 +129,7 @@ module _ (p : List ℕ) (k : ℕ) where
 
 pub release-is-quiet : (j : ℕ) → j < positions Jobs → (p d : List ℕ) → sound p ≡ true → Quiet j p (outcome release p d .picture)
 release-is-quiet j l p d h = release-ways (λ (o : Outcome). Quiet j p (o .picture)) p d (λ k. nothing-is-quiet j p)
-    (λ _. nobody-quiet j p (released p (job-position p d)) (kept-is-quiet j p (released p (job-position p d)) (released-accumulated p (job-position p d))))
+    (λ _. nobody-quiet j p (released p (stand p d)) (kept-is-quiet j p (released p (stand p d)) (released-accumulated p (stand p d))))
 
 -- $8: the job suspended has a timeout, so it isn't the one that is ready after
 suspends-some : (z : ℤ) → suspends (timeout-of z) ≡ true → value (timeout-of z) ≡ pos 0 → ⊥
@@ -184,8 +184,8 @@ module _ (p : List ℕ) (S : Sound p) (k : ℕ) (u : used p Jobs k ≡ true) whe
 pub suspend-is-quiet : (n j g : ℕ) → j < positions Jobs → (p d : List ℕ) → sound p ≡ true → Stands n j g (outcome suspend p d .picture) → Quiet j p (outcome suspend p d .picture)
 suspend-is-quiet n j g l p d h = suspend-ways (λ (o : Outcome). Stands n j g (o .picture) → Quiet j p (o .picture)) p d (λ k _. nothing-is-quiet j p) (λ lives good s.
     let t = value (timeout-in (D3 d)) in
-    nobody-quiet j p (suspended p (job-position p d) t)
-    (suspended-quiet p (view p h) (job-position p d) (live-is p Jobs (job p d) lives .used) t n j g
+    nobody-quiet j p (suspended p (stand p d) t)
+    (suspended-quiet p (view p h) (stand p d) (live-is p Jobs (job p d) lives .used) t n j g
     (value-timely (low-half (D3 d))) (suspends-some (low-half (D3 d)) (both (suspends (timeout-in (D3 d))) (eqb (A1 d) 0) good .0)) s))
 
 -- $B: the job named has another number
@@ -193,8 +193,8 @@ pub set-priority-is-quiet : (n j g : ℕ) → j < positions Jobs → (p d : List
 set-priority-is-quiet n j g l p d h s other = set-priority-ways (λ (o : Outcome). Quiet j p (o .picture)) p d (λ k. nothing-is-quiet j p) (λ lives _.
     let L = live-is p Jobs (job p d) lives in
     let v = D2 d % 256 in
-    nobody-quiet j p (prioritized p (job-position p d) v)
-    (prioritized-quiet p (view p h) (job-position p d) (L .used) j v (λ y. other (sym (L .names) ∙ ap (number p Jobs) (sym y) ∙ s .names))))
+    nobody-quiet j p (prioritized p (stand p d) v)
+    (prioritized-quiet p (view p h) (stand p d) (L .used) j v (λ y. other (sym (L .names) ∙ ap (number p Jobs) (sym y) ∙ s .names))))
 
 -- $A: the job named was inactive, and a caller that waits has a timeout after: neither is the one that is ready before and after
 module _ (p : List ℕ) (S : Sound p) (m v : ℕ) (lives : live p Jobs m ≡ true) (idle : active p (position m) ≡ false) (someone : caller p ≡ nobody → ⊥) (n j g : ℕ) (before : Stands n j g p) where
@@ -267,5 +267,5 @@ module _ (p : List ℕ) (S : Sound p) (m v : ℕ) (lives : live p Jobs m ≡ tru
 pub activate-is-quiet : (n j g : ℕ) → j < positions Jobs → (p d : List ℕ) → sound p ≡ true → (caller p ≡ nobody → ⊥) → Stands n j g p → Stands n j g (outcome activate p d .picture) → Quiet j p (outcome activate p d .picture)
 activate-is-quiet n j g l p d h someone before =
     activate-ways (λ (o : Outcome). Stands n j g (o .picture) → Quiet j p (o .picture)) p d (λ k _. nothing-is-quiet j p) (λ lives idle _ _ after.
-    nobody-quiet j p (waiting (prioritized p (job-position p d) (D2 d % 256)) (timeout-in (D3 d)) (position (caller p)) (job p d))
+    nobody-quiet j p (waiting (prioritized p (stand p d) (D2 d % 256)) (timeout-in (D3 d)) (position (caller p)) (job p d))
     (activated-quiet p (view p h) (job p d) (D2 d % 256) lives idle someone n j g before (timeout-in (D3 d)) after))

@@ -23,10 +23,10 @@ use Rattle.queues.specs.Bytes.{byte-word}
 use Rattle.queues.specs.Ring.{Ring, index, waits, full, fetched, sent}
 use Rattle.queues.proofs.Ring.{index-below, waits-some, full-not, length-fetched, fetched-other, fetched-oldest, fetched-count, fetched-length, fetched-ring, length-sent, sent-other, sent-count, sent-length, sent-oldest, sent-ring}
 use Rattle.channels.specs.Effects.{queue-of}
-use Rattle.channels.specs.Calls.{queue-named, pending, fetch, send}
+use Rattle.channels.specs.Calls.{pending, fetch, send}
 use Rattle.channels.proofs.Found.{Held, live-queue}
 use Rattle.law_queues.proofs.Written.{Written, tables, writing-keeps-sound}
-use Rattle.law_queues.proofs.Ways.{pending-ways, fetch-ways, send-ways}
+use Rattle.law_queues.proofs.Ways.{queue-there, pending-ways, fetch-ways, send-ways}
 
 module _ (p : List ℕ) (k i : ℕ) (H : Held p k i) where
   -- the queue's longwords lie in the picture
@@ -87,12 +87,12 @@ pending-keeps-sound p d s = pending-ways (λ (o : Outcome). sound (o .picture) �
 pub fetch-keeps-sound : (p d : List ℕ) → sound p ≡ true → sound (outcome fetch p d .picture) ≡ true
 fetch-keeps-sound p d s = fetch-ways (λ (o : Outcome). sound (o .picture) ≡ true) p d (λ k. s)
     (λ a b c. let H = live-queue p (A0 d) s a in
-    sound-again _ (writing-keeps-sound p (fetched p (queue-named p d)) (position (A0 d)) (queue-named p d) (view p s) H (fetched-written p (position (A0 d)) (queue-named p d) H c)))
+    sound-again _ (writing-keeps-sound p (fetched p (queue-there p d)) (position (A0 d)) (queue-there p d) (view p s) H (fetched-written p (position (A0 d)) (queue-there p d) H c)))
 
 pub send-keeps-sound : (p d : List ℕ) → sound p ≡ true → sound (outcome send p d .picture) ≡ true
 send-keeps-sound p d s = send-ways (λ (o : Outcome). sound (o .picture) ≡ true) p d (λ k. s)
     (λ a b c. let H = live-queue p (A0 d) s a in
-    sound-again _ (writing-keeps-sound p (sent p (queue-named p d) (D1 d % 256)) (position (A0 d)) (queue-named p d) (view p s) H (sent-written p (position (A0 d)) (queue-named p d) H (D1 d % 256) (low-byte (D1 d)) c)))
+    sound-again _ (writing-keeps-sound p (sent p (queue-there p d) (D1 d % 256)) (position (A0 d)) (queue-there p d) (view p s) H (sent-written p (position (A0 d)) (queue-there p d) H (D1 d % 256) (low-byte (D1 d)) c)))
 
 -- tags: none is given
 pub pending-ages : (p d : List ℕ) → sound p ≡ true → (t : Table) → Ages p (outcome pending p d .picture) t
@@ -101,9 +101,9 @@ pending-ages p d s t = pending-ways (λ (o : Outcome). Ages p (o .picture) t) p 
 pub fetch-ages : (p d : List ℕ) → sound p ≡ true → (t : Table) → Ages p (outcome fetch p d .picture) t
 fetch-ages p d s t = fetch-ways (λ (o : Outcome). Ages p (o .picture) t) p d (λ k. ages-still p t)
     (λ a b c. let H = live-queue p (A0 d) s a in
-    tables-age p (fetched p (queue-named p d)) (tables p (fetched p (queue-named p d)) (position (A0 d)) (queue-named p d) (view p s) H (fetched-written p (position (A0 d)) (queue-named p d) H c)) t)
+    tables-age p (fetched p (queue-there p d)) (tables p (fetched p (queue-there p d)) (position (A0 d)) (queue-there p d) (view p s) H (fetched-written p (position (A0 d)) (queue-there p d) H c)) t)
 
 pub send-ages : (p d : List ℕ) → sound p ≡ true → (t : Table) → Ages p (outcome send p d .picture) t
 send-ages p d s t = send-ways (λ (o : Outcome). Ages p (o .picture) t) p d (λ k. ages-still p t)
     (λ a b c. let H = live-queue p (A0 d) s a in
-    tables-age p (sent p (queue-named p d) (D1 d % 256)) (tables p (sent p (queue-named p d) (D1 d % 256)) (position (A0 d)) (queue-named p d) (view p s) H (sent-written p (position (A0 d)) (queue-named p d) H (D1 d % 256) (low-byte (D1 d)) c)) t)
+    tables-age p (sent p (queue-there p d) (D1 d % 256)) (tables p (sent p (queue-there p d) (D1 d % 256)) (position (A0 d)) (queue-there p d) (view p s) H (sent-written p (position (A0 d)) (queue-there p d) H (D1 d % 256) (low-byte (D1 d)) c)) t)

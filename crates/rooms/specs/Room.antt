@@ -6,7 +6,7 @@ use Rattle.picture.specs.Layout.{from, upto}
 use Rattle.picture.specs.Keys.{done, out-of-memory}
 use Rattle.picture.specs.declared.Area.{Area}
 use Rattle.blocks.specs.Header.{rounded}
-use Rattle.placing.specs.Place.{chosen, answer}
+use Rattle.placing.specs.Place.{answer}
 use Rattle.placing.specs.declared.Placement.{Placement}
 use Rattle.placing.specs.declared.Placement.the-variants.{At, Nowhere}
 use Rattle.calls.specs.Call.{Check}
@@ -14,10 +14,6 @@ use Rattle.calls.specs.Call.{Check}
 -- the length of a block with n bytes of room: 16 + n, "rounded up to 16"
 abbrev pub block-length : ℕ → ℕ
 block-length n = rounded (16 + n)
-
--- the block of the area in which n bytes are placed
-abbrev pub spot : List ℕ → Area → ℕ → ℕ
-spot p a n = chosen p (from p a) (upto p a) n
 
 -- where n bytes find room in the area
 abbrev pub room-at : List ℕ → Area → ℕ → Placement
@@ -32,6 +28,10 @@ room-check Nowhere = (false, out-of-memory)
 abbrev pub room-place : Placement → ℕ
 room-place (At i) = i
 room-place Nowhere = 0
+
+-- the block of the area in which n bytes are placed
+abbrev pub spot : List ℕ → Area → ℕ → ℕ
+spot p a n = room-place (room-at p a n)
 
 -- the byte offset of the header of the block at i
 abbrev pub header-byte : ℕ → ℕ

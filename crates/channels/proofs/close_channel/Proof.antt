@@ -1,13 +1,11 @@
 use Rattle.picture.specs.declared.Area.the-variants.{Heap}
 use Rattle.rooms.proofs.Sizes.{areas-lie-in-a-sound-picture}
-use mathlib.Core.Path.{_≡_, sym, ap, _∙_, subst}
+use mathlib.Core.Path.{_≡_, sym, _∙_}
 use borrow.Author.Tests.{not-true, not-false}
 use Rattle.words.specs.Words.{word}
 use Rattle.calls.proofs.Outcome.{meets-refuse, meets-succeed}
-use Rattle.picture.specs.Numbers.{position}
 use Rattle.calls.specs.Call.{outcome}
-use Rattle.channels.specs.Effects.{queue-of}
-use Rattle.channels.proofs.Found.{Named, channel-named, Held, live-queue}
+use Rattle.channels.proofs.Found.{Named, channel-named}
 use Rattle.channels.specs.Calls.{close-channel}
 use borrow.Author.Needs.{needs}
 use Rattle.channels.proofs.close_channel.Statement.{statement}
@@ -53,7 +51,7 @@ same-length-4 c = search needs
 returns-2 : tie.Need-returns-2
 unfolding close-channel outcome
 returns-2 c = let r = c .before .before in let f = found (r .before .before) in
-    rw (r .remove-channel .ensures, ← f .place) (meets-succeed _ _ _ (rw (f .finds)))
+    rw (r .remove-channel .ensures) (meets-succeed _ _ _ (rw (f .finds)))
 
 pub close-channel-spec : {M : Type 1} → statement M
 close-channel-spec =

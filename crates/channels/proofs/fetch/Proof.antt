@@ -1,13 +1,11 @@
 use native.Mathlib.Omega.{arith}
 use Rattle.queues.specs.Ring.{Ring, waits}
-use mathlib.Core.Path.{_≡_, sym, ap, _∙_, subst}
+use mathlib.Core.Path.{_≡_, sym, _∙_, subst}
 use borrow.Author.Tests.{not-true, not-false}
 use Rattle.words.specs.Words.{word}
 use Rattle.calls.proofs.Outcome.{meets-refuse, meets-succeed}
-use Rattle.picture.specs.Numbers.{position}
 use Rattle.calls.specs.Call.{outcome}
-use Rattle.channels.specs.Effects.{queue-of}
-use Rattle.channels.proofs.Found.{Named, channel-named, Held, live-queue}
+use Rattle.channels.proofs.Found.{Named, channel-named, Held, named-queue}
 use Rattle.channels.specs.Calls.{fetch}
 use borrow.Author.Needs.{needs}
 use Rattle.channels.proofs.fetch.Statement.{statement}
@@ -25,10 +23,6 @@ use Rattle.words.proofs.put.Reads as put-reads
 -- the channel that A0 names
 found : (c : tie.After-known-told) → Named (c .before .before .before .before .before .before .before .before .args .p .now) (word (c .before .before .before .before .before .before .before .before .args .d .now) 4) (c .before .k .given .0 .0)
 found c = channel-named _ _ _ (sym (c .before .before .before .channel-named .ensures) ∙ c .before .k .given .1)
-
--- its queue
-asked : (c : tie.After-queue-at) → c .queue-at .result ≡ queue-of (c .before .before .before .before .before .before .before .before .before .before .before .before .before .args .p .now) (position (word (c .before .before .before .before .before .before .before .before .before .before .before .before .before .args .d .now) 4))
-asked c = c .queue-at .ensures .0 ∙ ap (queue-of (c .before .before .before .before .before .before .before .before .before .before .before .before .before .args .p .now)) (sym (found (c .before .before .before .before .before) .place))
 
 channel-named-requires : tie.Need-channel-named-requires
 channel-named-requires c κs = search needs
@@ -78,7 +72,7 @@ same-length-6 c = search needs
 returns-3 : tie.Need-returns-3
 unfolding fetch outcome
 returns-3 c = let w = c .before in let q = w .before .before in let e = q .before .before in let a = e .before in let f = found (a .before .before) in
-    meets-refuse _ _ _ _ (rw (f .finds, sym (a .is-immediate .ensures) ∙ not-false _ (e .if1 .left), rw (asked q) at (sym (w .is-waiting .ensures) ∙ not-true _ (c .if2 .taken))))
+    meets-refuse _ _ _ _ (rw (f .finds, sym (a .is-immediate .ensures) ∙ not-false _ (e .if1 .left), rw (q .queue-at .ensures .0) at (sym (w .is-waiting .ensures) ∙ not-true _ (c .if2 .taken))))
 
 oldest-of-requires : tie.Need-oldest-of-requires
 oldest-of-requires c κs = search needs
@@ -89,7 +83,7 @@ put-requires c κs = search needs
 take-oldest-requires : tie.Need-take-oldest-requires
 take-oldest-requires c κs = let o = c .before .before .before .before .before in let x = o .before .before in let w = x .before in let q = w .before .before in let g = q .before .before .before .before .before in
     let s = g .before .before .before .before .before .before .before .before in
-    (omega (arith, q .queue-at .ensures .1), (subst (Ring (s .args .p .now)) (sym (asked q)) (live-queue (s .args .p .now) _ (s .pre) (found g .lives) .ring), sym (w .is-waiting .ensures) ∙ not-false _ (x .if2 .left)))
+    (omega (arith, q .queue-at .ensures .1), (subst (Ring (s .args .p .now)) (sym (q .queue-at .ensures .0)) (named-queue (s .args .p .now) _ _ (s .pre) (found g) .ring), sym (w .is-waiting .ensures) ∙ not-false _ (x .if2 .left)))
 
 same-length-7 : tie.Need-same-length-7
 same-length-7 c = search needs
@@ -100,7 +94,7 @@ same-length-8 c = search needs
 returns-4 : tie.Need-returns-4
 unfolding fetch outcome
 returns-4 c = let t = c .before .before in let u = t .before .before .before .before in let o = u .before in let x = o .before .before .before in let w = x .before in let q = w .before .before in let e = q .before .before in let a = e .before in let f = found (a .before .before) in
-    rw (t .take-oldest .ensures, u .put .ensures, o .oldest-of .ensures, asked q) (meets-succeed _ _ _ (rw (f .finds, sym (a .is-immediate .ensures) ∙ not-false _ (e .if1 .left), rw (asked q) at (sym (w .is-waiting .ensures) ∙ not-false _ (x .if2 .left)))))
+    rw (t .take-oldest .ensures, u .put .ensures, o .oldest-of .ensures, q .queue-at .ensures .0) (meets-succeed _ _ _ (rw (f .finds, sym (a .is-immediate .ensures) ∙ not-false _ (e .if1 .left), rw (q .queue-at .ensures .0) at (sym (w .is-waiting .ensures) ∙ not-false _ (x .if2 .left)))))
 
 pub fetch-spec : {M : Type 1} → statement M
 fetch-spec =

@@ -1,11 +1,9 @@
-use mathlib.Core.Path.{_≡_, sym, ap, _∙_, subst}
+use mathlib.Core.Path.{_≡_, sym, _∙_}
 use borrow.Author.Tests.{not-true, not-false}
 use Rattle.words.specs.Words.{word}
 use Rattle.calls.proofs.Outcome.{meets-refuse, meets-succeed}
-use Rattle.picture.specs.Numbers.{position}
 use Rattle.calls.specs.Call.{outcome}
-use Rattle.channels.specs.Effects.{queue-of}
-use Rattle.channels.proofs.Found.{Named, channel-named, Held, live-queue}
+use Rattle.channels.proofs.Found.{Named, channel-named}
 use Rattle.channels.specs.Calls.{pending}
 use borrow.Author.Needs.{needs}
 use Rattle.channels.proofs.pending.Statement.{statement}
@@ -20,10 +18,6 @@ use Rattle.queues.proofs.is_waiting.Reads as is-waiting-reads
 -- the channel that A0 names
 found : (c : tie.After-known-told) → Named (c .before .before .before .before .before .before .before .before .args .p .now) (word (c .before .before .before .before .before .before .before .before .args .d .now) 4) (c .before .k .given .0 .0)
 found c = channel-named _ _ _ (sym (c .before .before .before .channel-named .ensures) ∙ c .before .k .given .1)
-
--- its queue
-asked : (c : tie.After-queue-at) → c .queue-at .result ≡ queue-of (c .before .before .before .before .before .before .before .before .before .before .before .before .before .args .p .now) (position (word (c .before .before .before .before .before .before .before .before .before .before .before .before .before .args .d .now) 4))
-asked c = c .queue-at .ensures .0 ∙ ap (queue-of (c .before .before .before .before .before .before .before .before .before .before .before .before .before .args .p .now)) (sym (found (c .before .before .before .before .before) .place))
 
 channel-named-requires : tie.Need-channel-named-requires
 channel-named-requires c κs = search needs
@@ -73,7 +67,7 @@ same-length-6 c = search needs
 returns-3 : tie.Need-returns-3
 unfolding pending outcome
 returns-3 c = let w = c .before in let q = w .before in let e = q .before .before in let a = e .before in let f = found (a .before .before) in
-    meets-refuse _ _ _ _ (rw (f .finds, sym (a .is-immediate .ensures) ∙ not-false _ (e .if1 .left), rw (asked q) at (sym (w .is-waiting .ensures) ∙ not-true _ (c .if2 .taken))))
+    meets-refuse _ _ _ _ (rw (f .finds, sym (a .is-immediate .ensures) ∙ not-false _ (e .if1 .left), rw (q .queue-at .ensures .0) at (sym (w .is-waiting .ensures) ∙ not-true _ (c .if2 .taken))))
 
 same-length-7 : tie.Need-same-length-7
 same-length-7 c = search needs
@@ -84,7 +78,7 @@ same-length-8 c = search needs
 returns-4 : tie.Need-returns-4
 unfolding pending outcome
 returns-4 c = let w = c .before in let q = w .before in let e = q .before .before in let a = e .before in let f = found (a .before .before) in
-    meets-succeed _ _ _ (rw (f .finds, sym (a .is-immediate .ensures) ∙ not-false _ (e .if1 .left), rw (asked q) at (sym (w .is-waiting .ensures) ∙ not-false _ (c .if2 .left))))
+    meets-succeed _ _ _ (rw (f .finds, sym (a .is-immediate .ensures) ∙ not-false _ (e .if1 .left), rw (q .queue-at .ensures .0) at (sym (w .is-waiting .ensures) ∙ not-false _ (c .if2 .left))))
 
 pub pending-spec : {M : Type 1} → statement M
 pending-spec =
