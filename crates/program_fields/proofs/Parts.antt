@@ -30,7 +30,7 @@ texts-fit r key a b x y f e = subst (λ (t : Asked). TextsFitting t a b) e f
 pub trial-fits : (r : Trial) (call : Call) (a b d x y z : ℕ) → Fitting r a b d → r ≡ Good call x y z → (x ≤ a) × (y ≤ b) × (z ≤ d)
 trial-fits r call a b d x y z f e = subst (λ (t : Trial). Fitting t a b d) e f
 
--- a longer name fits wherever a shorter one does
-pub longer-name : (r : Trial) (a b d e : ℕ) → a ≤ e → Fitting r a b d → Fitting r e b d
-longer-name (Good call x y z) a b d e l f = (omega (arith, f .0), f .1, f .2)
-longer-name Bad a b d e l f = tt
+-- what lies in a part of the line lies in the line
+pub longer-line : (r : Trial) (a b d e : ℕ) → a ≤ e → Fitting r a b d → Fitting r e b d
+longer-line (Good call x y z) a b d e l f = (omega (arith, f .0), f .1, f .2)
+longer-line Bad a b d e l f = tt

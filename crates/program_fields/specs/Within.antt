@@ -17,7 +17,7 @@ abbrev pub TextsFitting : Asked → ℕ → ℕ → Type 0
 TextsFitting (Text key first last) system driver = (first ≤ system) × (last ≤ driver)
 TextsFitting BadLine system driver = Unit {0}
 
--- a trial's name, registers and picture fit
+-- a trial's call field lies in its line, and its registers and its picture fit
 abbrev pub Fitting : Trial → ℕ → ℕ → ℕ → Type 0
-Fitting (Good call characters count size) name registers picture = (characters ≤ name) × (count ≤ registers) × (size ≤ picture)
-Fitting BadTrial name registers picture = Unit {0}
+Fitting (Good call characters count size) line registers picture = (characters ≤ line) × (count ≤ registers) × (size ≤ picture)
+Fitting BadTrial line registers picture = Unit {0}

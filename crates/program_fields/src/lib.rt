@@ -4,6 +4,7 @@ mod trials;
 
 pub use asking::is_asked;
 pub use asking::read_asked;
+pub use trials::read_name;
 pub use trials::read_trial;
 
 // A line has at most 300,000 characters.
@@ -30,7 +31,7 @@ pub enum Call {
     Bad,
 }
 
-// A trial: its call, and how many bytes of name, registers and longwords it has.
+// A trial: its call, how many characters the call field has, and how many registers and longwords there are.
 pub enum Trial {
     Good(Call, usize, usize, usize),
     Bad,

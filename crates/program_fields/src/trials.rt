@@ -64,7 +64,7 @@ fn call_of(field: &[u8]) -> Call {
 }
 
 // Reads the bytes behind a call field's first two digits, and answers how many there are: none where they are no digits or too many.
-fn read_name(field: &[u8], name: &mut [u8]) -> usize
+pub fn read_name(field: &[u8], name: &mut [u8]) -> usize
     ensures { λ r. ⌜ r ≤ length (now (name .entry)) ⌝ }
 {
     if field.len() < 2 {
@@ -214,9 +214,9 @@ fn read_rest(
     Trial::Good(call, characters, count, size)
 }
 
-// Reads a line: its call, its name, its registers and its picture.
-pub fn read_trial(p: &mut [u32], line: &[u8], registers: &mut [u32], name: &mut [u8]) -> Trial
-    ensures { λ r. ⌜ Fitting r (length (now (name .entry))) (length (now (registers .entry))) (length (now (p .entry))) ⌝ }
+// Reads a line: its call, its registers and its picture. A name stays in the call field.
+pub fn read_trial(p: &mut [u32], line: &[u8], registers: &mut [u32]) -> Trial
+    ensures { λ r. ⌜ Fitting r (length (now (line .entry))) (length (now (registers .entry))) (length (now (p .entry))) ⌝ }
 {
     if LONGEST_LINE < line.len() {
         return Trial::Bad;
@@ -230,6 +230,5 @@ pub fn read_trial(p: &mut [u32], line: &[u8], registers: &mut [u32], name: &mut 
     if let Call::Bad = call {
         return Trial::Bad;
     }
-    let characters = read_name(&line[..first], name);
-    read_rest(p, call, characters, &line[next..], registers)
+    read_rest(p, call, first, &line[next..], registers)
 }

@@ -3,6 +3,7 @@ mod report;
 mod room;
 mod running;
 mod telling;
+mod trying;
 
 pub use room::line_room;
 pub use running::answer_all;
@@ -12,10 +13,4 @@ pub struct Answer {
     pub key: u32,
     pub number: u32,
     pub is_pick: bool,
-}
-
-// How far the line at hand and the output have come.
-pub struct Progress {
-    pub length: usize,
-    pub used: usize,
 }

@@ -47,19 +47,18 @@ fn write_changes(p: &[u32], before: &[u32], out: &mut [u8], used: usize) -> usiz
     program_writing::write_character(out, start, b'-')
 }
 
-// Answers a trial.
-pub fn write_answer(
-    p: &[u32],
-    before: &[u32],
-    answer: Answer,
-    registers: &[u32],
-    out: &mut [u8],
-    used: usize,
-) -> usize {
-    let start = program_pieces::with_room(out, used);
-    let keyed = program_writing::write_number(out, start, 8, answer.key);
+// The key, the number of a pick and the registers.
+fn write_head(answer: Answer, registers: &[u32], out: &mut [u8]) -> usize {
+    let keyed = program_writing::write_number(out, 0, 8, answer.key);
     let picked = write_pick(answer, out, keyed);
-    let listed = write_registers(registers, out, picked);
-    let changed = write_changes(p, before, out, listed);
-    program_writing::write_character(out, changed, b'\n')
+    write_registers(registers, out, picked)
+}
+
+// Answers a trial.
+pub fn write_answer(p: &[u32], before: &[u32], answer: Answer, registers: &[u32]) {
+    let mut out = io::large_buffer();
+    let listed = write_head(answer, registers, &mut out);
+    let changed = write_changes(p, before, &mut out, listed);
+    let end = program_writing::write_character(&mut out, changed, b'\n');
+    program_pieces::write_out(&out, end);
 }

@@ -3,10 +3,8 @@ ghost use mathlib.Core.Path.{_≡_};
 ghost use lib.ListN.{length};
 
 // Answers a line that is no trial.
-pub fn write_refusal(out: &mut [u8], used: usize) -> usize {
-    let start = program_pieces::with_room(out, used);
-    let end = program_writing::write_character(out, start, b'?');
-    program_writing::write_character(out, end, b'\n')
+pub fn write_refusal() {
+    program_pieces::write_out(&[b'?', b'\n'], 2);
 }
 
 // The bytes of a text, two digits each, written out in pieces.
@@ -30,20 +28,21 @@ fn write_text(text: &[u8], out: &mut [u8], used: usize) -> usize {
 }
 
 // Answers with a key and a text.
-fn write_error(key: u32, text: &[u8], out: &mut [u8], used: usize) -> usize {
-    let start = program_pieces::with_room(out, used);
-    let keyed = program_writing::write_number(out, start, 8, key);
-    let apart = program_writing::write_character(out, keyed, b' ');
-    let end = write_text(text, out, apart);
-    program_writing::write_character(out, end, b'\n')
+fn write_error(key: u32, text: &[u8]) {
+    let mut out = io::large_buffer();
+    let keyed = program_writing::write_number(&mut out, 0, 8, key);
+    let apart = program_writing::write_character(&mut out, keyed, b' ');
+    let told = write_text(text, &mut out, apart);
+    let end = program_writing::write_character(&mut out, told, b'\n');
+    program_pieces::write_out(&out, end);
 }
 
 // Asks for the text of a key, and answers with it.
-fn tell<'a>(key: u32, system: &'a [u8], driver: &'a [u8], out: &mut [u8], used: usize) -> usize {
+fn tell<'a>(key: u32, system: &'a [u8], driver: &'a [u8]) {
     let asked = words::signed_of(key);
     let answered = manager::error_key(asked, system, driver);
     let text = manager::error_text(asked, system, driver);
-    write_error(words::bits_of(answered), text, out, used)
+    write_error(words::bits_of(answered), text);
 }
 
 // Room for an error text: as many bytes as a line may have pairs of characters.
@@ -53,23 +52,12 @@ fn text_room() -> [u8; 150000]
     [0; 150000]
 }
 
-// Answers a line that asks for an error text, in the rooms that are lent.
-fn answer_in(
-    line: &[u8],
-    system: &mut [u8],
-    driver: &mut [u8],
-    out: &mut [u8],
-    used: usize,
-) -> usize {
-    match program_fields::read_asked(line, system, driver) {
-        Asked::Text(key, first, last) => tell(key, &system[..first], &driver[..last], out, used),
-        Asked::Bad => write_refusal(out, used),
-    }
-}
-
 // Answers a line that asks for an error text.
-pub fn answer_error(line: &[u8], out: &mut [u8], used: usize) -> usize {
+pub fn answer_error(line: &[u8]) {
     let mut system = text_room();
     let mut driver = text_room();
-    answer_in(line, &mut system, &mut driver, out, used)
+    match program_fields::read_asked(line, &mut system, &mut driver) {
+        Asked::Text(key, first, last) => tell(key, &system[..first], &driver[..last]),
+        Asked::Bad => write_refusal(),
+    }
 }

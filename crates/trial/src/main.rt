@@ -2,6 +2,5 @@
 fn main() {
     let mut chunk = io::large_buffer();
     let mut line = program_trial::line_room();
-    let mut out = io::large_buffer();
-    program_trial::answer_all(&mut chunk, &mut line, &mut out);
+    program_trial::answer_all(&mut chunk, &mut line);
 }

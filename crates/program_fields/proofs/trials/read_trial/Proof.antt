@@ -1,6 +1,6 @@
 -- `program_fields::trials::read_trial` meets its contract: the counts are within what the readers were lent. Assumes nothing.
 use lib.ListN.{length}
-use Rattle.program_fields.proofs.Parts.{counted, longer-name}
+use Rattle.program_fields.proofs.Parts.{counted, longer-line}
 use borrow.Author.Needs.{needs}
 use Rattle.program_fields.proofs.trials.read_trial.Statement.{statement}
 use Rattle.program_fields.proofs.trials.read_trial.Tie as tie
@@ -29,12 +29,6 @@ enum-told c = search needs
 returns-3 : tie.Need-returns-3
 returns-3 c = search needs
 
-slice-aggregate-read-name : tie.Need-slice-aggregate-read-name
-slice-aggregate-read-name c = counted _ _ (c .before .before .before .before .before .blank-in .ensures .0)
-
-read-name-requires : tie.Need-read-name-requires
-read-name-requires c κs = search needs
-
 sub-read-rest : tie.Need-sub-read-rest
 sub-read-rest c = search needs
 
@@ -53,15 +47,12 @@ same-length c = search needs
 same-length-2 : tie.Need-same-length-2
 same-length-2 c = search needs
 
-same-length-3 : tie.Need-same-length-3
-same-length-3 c = search needs
-
 returns-4 : tie.Need-returns-4
 returns-4 c =
     let r = c .before .before .before .before in
-    let n = r .before .before .before .before .before .before in
-    let a = c .before .before .before .before .before .before .before .before .before .before .before .before .before .before .before .before .before .before .before .before .before .before .before .args in
-    longer-name (r .read-rest .result) (n .read-name .result) (length (a .registers .now)) (length (a .p .now)) (length (a .name .now)) (n .read-name .ensures) (r .read-rest .ensures)
+    let b = r .before .before .before .before .before .before .before .before in
+    let a = b .before .before .before .before .before .args in
+    longer-line (r .read-rest .result) (b .blank-in .result) (length (a .registers .now)) (length (a .p .now)) (length (a .line .now)) (b .blank-in .ensures .0) (r .read-rest .ensures)
 
 pub read-trial-spec : {M : Type 1} → statement M
 read-trial-spec =
@@ -75,13 +66,10 @@ read-trial-spec =
     call-of-requires
     enum-told
     returns-3
-    slice-aggregate-read-name
-    read-name-requires
     sub-read-rest
     part-read-rest-start
     part-read-rest-end
     read-rest-requires
     same-length
     same-length-2
-    same-length-3
     returns-4)

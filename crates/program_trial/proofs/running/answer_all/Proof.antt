@@ -1,6 +1,6 @@
 -- `program_trial::running::answer_all` meets its contract: the rooms keep their lengths and the line stays within its own; the measure is the turns that are left. Assumes nothing.
 use mathlib.Core.Path.{_≡_, refl, _∙_}
-use Prim.Native.Nat.{_≤_, _-_}
+use Prim.Native.Nat.{_≤_}
 use lib.ListN.{length}
 use borrow.Author.Needs.{needs}
 use native.Mathlib.Omega.{arith}
@@ -8,13 +8,13 @@ use Rattle.program_trial.proofs.running.answer_all.Statement.{statement
 use Rattle.program_trial.proofs.running.answer_all.Tie as tie
 
 abbrev Inv-loop : tie.InvT-loop
-Inv-loop chunk₀ line₀ out₀ progress₀ turns₀ chunk line out progress turns = (progress .length ≤ length line) × (length chunk ≡ length chunk₀) × (length line ≡ length line₀) × (length out ≡ length out₀)
+Inv-loop chunk₀ line₀ kept₀ turns₀ chunk line kept turns = (kept ≤ length line) × (length chunk ≡ length chunk₀) × (length line ≡ length line₀)
 
 abbrev μ-loop : tie.MeasureT-loop
-μ-loop chunk₀ line₀ out₀ progress₀ turns₀ chunk line out progress turns = turns
+μ-loop chunk₀ line₀ kept₀ turns₀ chunk line kept turns = turns
 
 loop-holds : tie.Need-loop-holds Inv-loop μ-loop
-loop-holds c = (omega arith, refl, refl, refl)
+loop-holds c = (omega arith, refl, refl)
 
 read-full-requires : tie.Need-read-full-requires Inv-loop μ-loop
 read-full-requires c κs = search needs
@@ -36,12 +36,11 @@ loop-less c = search needs
 
 loop-again : tie.Need-loop-again Inv-loop μ-loop
 loop-again c =
-    let e = c .before .before .before .before .before in
-    let f = e .before .before .before .before .before .before in
-    let d = f .before .before .before .loop in
-    let t = e .take-all in
+    let t = c .before .before .before .take-all in
+    let f = c .before .before .before .before .before .before .before .before .read-full in
+    let d = c .before .before .before .before .before .before .before .before .before .before .before .loop in
     let k = t .kept .1 .1 in
-    (rw (k .0) (t .ensures), f .read-full .kept .1 .0 ∙ d .inv .1, k .0 ∙ d .inv .2, k .1 .0 ∙ d .inv .3)
+    (rw (k .0) (t .ensures), f .kept .1 .0 ∙ d .inv .1, k .0 ∙ d .inv .2)
 
 finish-requires : tie.Need-finish-requires Inv-loop μ-loop
 finish-requires c κs = search needs
@@ -51,9 +50,6 @@ same-length c = search needs
 
 same-length-2 : tie.Need-same-length-2 Inv-loop μ-loop
 same-length-2 c = search needs
-
-same-length-3 : tie.Need-same-length-3 Inv-loop μ-loop
-same-length-3 c = search needs
 
 returns : tie.Need-returns Inv-loop μ-loop
 returns c = tt
@@ -75,5 +71,4 @@ answer-all-spec =
     finish-requires
     same-length
     same-length-2
-    same-length-3
     returns)

@@ -1,39 +1,48 @@
--- `program_trial::running::take` meets its contract: the line's length stays within its room. Assumes nothing.
+-- `program_trial::running::take` meets its contract: the line stays within its room. Assumes nothing.
 use Rattle.program_writing.proofs.Writer.{past-inside}
 use Rattle.program_fields.proofs.Parts.{counted}
 use borrow.Author.Needs.{needs}
 use Rattle.program_trial.proofs.running.take.Statement.{statement}
 use Rattle.program_trial.proofs.running.take.Tie as tie
+use Rattle.program_trial.proofs.running.take.Reads as reads
+use Rattle.program_trial.proofs.running.take.Lts as lts
+use Rattle.program_trial.proofs.running.answer_line.Reads as answer-line-reads
+use Rattle.program_writing.proofs.write_character.Reads as write-character-reads
 
+-- src/running.rt:22:21
 slice-reshare-prefix-answer-line : tie.Need-slice-reshare-prefix-answer-line
 slice-reshare-prefix-answer-line c = search needs
 
+-- src/running.rt:22:21
 slice-aggregate-answer-line : tie.Need-slice-aggregate-answer-line
-slice-aggregate-answer-line c = let s = c .before .before .before .before in counted (s .args .progress .length) (s .args .line .now) (s .pre)
+slice-aggregate-answer-line c = let s = c .before .before .before in counted (s .args .kept) (s .args .line .now) (s .pre)
 
+-- src/running.rt:22:9
 answer-line-requires : tie.Need-answer-line-requires
 answer-line-requires c κs = search needs
 
+-- src/running.rt:23:9
 same-length : tie.Need-same-length
 same-length c = search needs
 
-same-length-2 : tie.Need-same-length-2
-same-length-2 c = search needs
-
+-- src/running.rt:23:9
 returns : tie.Need-returns
 returns c = search needs
 
+-- src/running.rt:25:5
 write-character-requires : tie.Need-write-character-requires
 write-character-requires c κs = search needs
 
-same-length-3 : tie.Need-same-length-3
-same-length-3 c = search needs
+-- src/running.rt:17:1
+same-length-2 : tie.Need-same-length-2
+same-length-2 c = search needs
 
+-- src/running.rt:17:1
 returns-2 : tie.Need-returns-2
 returns-2 c =
     let w = c .before .before in
-    let s = w .before .before .before .before .before in
-    rw (w .write-character .ensures .0) (past-inside (s .args .line .now) (s .args .progress .length) 1 (s .pre))
+    let s = w .before .before .before .before in
+    rw (w .write-character .ensures .0) (past-inside (s .args .line .now) (s .args .kept) 1 (s .pre))
 
 pub take-spec : {M : Type 1} → statement M
 take-spec =
@@ -43,8 +52,7 @@ take-spec =
     slice-aggregate-answer-line
     answer-line-requires
     same-length
-    same-length-2
     returns
     write-character-requires
-    same-length-3
+    same-length-2
     returns-2)

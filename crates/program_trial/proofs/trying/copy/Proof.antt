@@ -1,11 +1,11 @@
--- `program_trial::running::copy` meets its contract: the room keeps its length; the measure is how many longwords are left. Assumes nothing.
+-- `program_trial::trying::copy` meets its contract: the room keeps its length; the measure is how many longwords are left. Assumes nothing.
 use mathlib.Core.Path.{_≡_, refl, _∙_}
 use Prim.Native.Nat.{_≤_, _-_}
 use lib.ListN.{length}
 use borrow.Author.Needs.{needs}
 use native.Mathlib.Omega.{arith}
-use Rattle.program_trial.proofs.running.copy.Statement.{statement}
-use Rattle.program_trial.proofs.running.copy.Tie as tie
+use Rattle.program_trial.proofs.trying.copy.Statement.{statement}
+use Rattle.program_trial.proofs.trying.copy.Tie as tie
 
 abbrev Inv-loop : tie.InvT-loop
 Inv-loop picture room₀ i₀ room i = (i ≤ length picture) × (length room ≡ length room₀)

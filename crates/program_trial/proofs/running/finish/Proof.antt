@@ -1,0 +1,21 @@
+-- `program_trial::running::finish` meets its contract: what is kept lies in the line. Assumes nothing.
+use Rattle.program_fields.proofs.Parts.{counted}
+use borrow.Author.Needs.{needs}
+use Rattle.program_trial.proofs.running.finish.Statement.{statement}
+use Rattle.program_trial.proofs.running.finish.Tie as tie
+
+returns : tie.Need-returns
+returns c = search needs
+
+slice-aggregate-answer-line : tie.Need-slice-aggregate-answer-line
+slice-aggregate-answer-line c = let s = c .before .before .before in counted (s .args .kept) (s .args .line .now) (s .pre)
+
+answer-line-requires : tie.Need-answer-line-requires
+answer-line-requires c κs = search needs
+
+returns-2 : tie.Need-returns-2
+returns-2 c = search needs
+
+pub finish-spec : {M : Type 1} → statement M
+finish-spec =
+    tie.close (tie.spec returns slice-aggregate-answer-line answer-line-requires returns-2)

@@ -1,0 +1,87 @@
+-- `program_trial::trying::answer_call` meets its contract: the trial fits the rooms, so its parts lie in them. Assumes nothing.
+use native.Mathlib.Omega.{arith}
+use Prim.Native.Nat.{_≤_}
+use lib.ListN.{length}
+use Rattle.program_fields.proofs.Parts.{counted, trial-fits}
+use borrow.Author.Needs.{needs}
+use Rattle.program_trial.proofs.trying.answer_call.Statement.{statement}
+use Rattle.program_trial.proofs.trying.answer_call.Tie as tie
+
+-- the picture, the registers and the call field of a trial lie in their rooms
+fit : (c : tie.After-call) →
+    (c .call .given .0 .1 .1 .1 .0 ≤ length (c .before .before .before .before .read-trial .last .0))
+    × (c .call .given .0 .1 .1 .0 ≤ length (c .before .before .before .before .read-trial .last .1 .1 .0))
+    × (c .call .given .0 .1 .0 ≤ length (c .before .before .before .before .before .before .before .before .before .before .args .line .now))
+fit c =
+    let r = c .before .before .before .before .read-trial in
+    let f = trial-fits _ _ _ _ _ _ _ _ (r .ensures) (c .call .given .1) in
+    (omega (arith, f .2, r .kept .0), omega (arith, f .1, r .kept .1 .1 .0), f .0)
+
+picture-room-requires : tie.Need-picture-room-requires
+picture-room-requires c κs = search needs
+
+registers-room-requires : tie.Need-registers-room-requires
+registers-room-requires c κs = search needs
+
+slice-aggregate-read-trial : tie.Need-slice-aggregate-read-trial
+slice-aggregate-read-trial c = search needs
+
+slice-aggregate-read-trial-2 : tie.Need-slice-aggregate-read-trial-2
+slice-aggregate-read-trial-2 c = search needs
+
+read-trial-requires : tie.Need-read-trial-requires
+read-trial-requires c κs = search needs
+
+enum-known-call : tie.Need-enum-known-call
+enum-known-call c = search needs
+
+array-borrow-prefix-picture : tie.Need-array-borrow-prefix-picture
+array-borrow-prefix-picture c = fit (c .before) .0
+
+slice-aggregate-try-call : tie.Need-slice-aggregate-try-call
+slice-aggregate-try-call c = counted _ _ (fit (c .before .before) .0)
+
+array-borrow-prefix-registers : tie.Need-array-borrow-prefix-registers
+array-borrow-prefix-registers c = fit (c .before .before) .1
+
+slice-aggregate-try-call-2 : tie.Need-slice-aggregate-try-call-2
+slice-aggregate-try-call-2 c = counted _ _ (fit (c .before .before .before) .1)
+
+slice-aggregate-try-call-3 : tie.Need-slice-aggregate-try-call-3
+slice-aggregate-try-call-3 c = counted _ _ (fit (c .before .before .before .before) .2)
+
+try-call-requires : tie.Need-try-call-requires
+try-call-requires c κs = search needs
+
+enum-told : tie.Need-enum-told
+enum-told c = search needs
+
+write-refusal-requires : tie.Need-write-refusal-requires
+write-refusal-requires c κs = search needs
+
+returns : tie.Need-returns
+returns c = search needs
+
+returns-2 : tie.Need-returns-2
+returns-2 c = search needs
+
+pub answer-call-spec : {M : Type 1} → statement M
+answer-call-spec =
+    tie.close
+    (tie.spec
+    picture-room-requires
+    registers-room-requires
+    slice-aggregate-read-trial
+    slice-aggregate-read-trial-2
+    read-trial-requires
+    enum-known-call
+    array-borrow-prefix-picture
+    slice-aggregate-try-call
+    array-borrow-prefix-registers
+    slice-aggregate-try-call-2
+    slice-aggregate-try-call-3
+    try-call-requires
+    enum-told
+    write-refusal-requires
+    returns
+    returns-2)
