@@ -12,7 +12,7 @@ use Rattle.program_digits.specs.Digits.{pick, digits, number, numbers}
 use Rattle.program_digits.proofs.Reader.{length-numbers}
 use Rattle.program_lines.specs.declared.Line.{Line}
 use Rattle.program_lines.specs.declared.Line.the-variants.{Bad, Pick, Tick, Trap}
-use Rattle.program_lines.specs.Frames.{Frame, bad, picks, ticks, traps, alone, trapped, called, frame, kind-of, name-of, Told}
+use Rattle.program_lines.specs.Frames.{Frame, bad, picks, ticks, traps, alone, trapped, called, frame, kind-of, registers-of, name-of, Told}
 
 -- what is read of one frame is read of an equal one
 pub told-as : (f g : Frame) (r : Line) (a b c d : List ℕ) → f ≡ g → Told g r a b c d → Told f r a b c d
@@ -87,42 +87,78 @@ module _ (s : List ℕ) where
   unfolding frame
   fair-called z l e d = rw (ne-eqb (length s) 0 z, le-ltb 512 (length s) l, ne-eqb (length s % 2) 1 e, d)
 
--- a frame's name has at most 223 bytes
-record Short (f : Frame) : Type 0 where
+-- a frame's name has at most 223 bytes, and a trap's registers are eight
+record Fits (f : Frame) : Type 0 where
   pub most : length (name-of f) ≤ 223
+  pub eight : (n k : ℕ) → kind-of f ≡ Trap n k → length (registers-of f) ≡ 8
 
-short-pick : (b : Bool) {f g : Frame} → Short f → Short g → Short (pick b f g)
-short-pick true h k = h
-short-pick false h k = k
+fits-pick : (b : Bool) {f g : Frame} → Fits f → Fits g → Fits (pick b f g)
+fits-pick true h k = h
+fits-pick false h k = k
 
-short-frame : (s : List ℕ) → Short (frame s)
+fits-bad : Fits bad
+fits-bad = record { most = omega arith; eight = λ n k e. absurd (let z : _≡_ {A = ℕ} 0 1 = cc in omega arith) }
+
+fits-picks : Fits picks
+fits-picks = record { most = omega arith; eight = λ n k e. absurd (let z : _≡_ {A = ℕ} 0 1 = cc in omega arith) }
+
+fits-ticks : Fits ticks
+fits-ticks = record { most = omega arith; eight = λ n k e. absurd (let z : _≡_ {A = ℕ} 0 1 = cc in omega arith) }
+
+fits-trap : (m : ℕ) (s name : List ℕ) → length name ≤ 223 → Fits (traps m (numbers s 2 8 8) name)
+fits-trap m s name l = record { most = l; eight = λ n k e. length-numbers s 2 8 8 }
+
+fits-frame : (s : List ℕ) → Fits (frame s)
 unfolding frame called alone trapped
-short-frame s = short-pick (eqb (length s) 0) {f = bad} (record { most = omega arith }) (go (ltb 512 (length s)) refl)
+fits-frame s = fits-pick (eqb (length s) 0) {f = bad} fits-bad (go (ltb 512 (length s)) refl)
   where
     n : ℕ
     n = number s 0 2
 
-    go : (b : Bool) → ltb 512 (length s) ≡ b → Short (pick b bad (pick (eqb (length s % 2) 1) bad (pick (digits s 0 (length s)) (called n s) bad)))
-    go true e = record { most = omega arith }
+    go : (b : Bool) → ltb 512 (length s) ≡ b → Fits (pick b bad (pick (eqb (length s % 2) 1) bad (pick (digits s 0 (length s)) (called n s) bad)))
+    go true e = fits-bad
     go false e =
         let few : length (numbers s 66 2 ((length s - 66) / 2)) ≤ 223 = rw (length-numbers s 66 2 ((length s - 66) / 2)) (omega (arith, ltb-false 512 (length s) e)) in
-        let named : Short (traps n (numbers s 2 8 8) (numbers s 66 2 ((length s - 66) / 2))) = record { most = few } in
-        let whole : Short (traps n (numbers s 2 8 8) []) = record { most = omega arith } in
-        let lone : Short bad = record { most = omega arith } in
-        let picked : Short picks = record { most = omega arith } in
-        let ticked : Short ticks = record { most = omega arith } in
-        short-pick (eqb (length s % 2) 1) lone
-        (short-pick (digits s 0 (length s))
-        (short-pick (eqb n 240) (short-pick (eqb (length s) 2) picked lone)
-        (short-pick (eqb n 241) (short-pick (eqb (length s) 2) ticked lone)
-        (short-pick (ltb (length s) 66) lone (short-pick (eqb n 2) named (short-pick (eqb (length s) 66) whole lone)))))
-        lone)
+        fits-pick (eqb (length s % 2) 1) fits-bad
+        (fits-pick (digits s 0 (length s))
+        (fits-pick (eqb n 240) (fits-pick (eqb (length s) 2) fits-picks fits-bad)
+        (fits-pick (eqb n 241) (fits-pick (eqb (length s) 2) fits-ticks fits-bad)
+        (fits-pick (ltb (length s) 66) fits-bad (fits-pick (eqb n 2) (fits-trap n s _ few) (fits-pick (eqb (length s) 66) (fits-trap n s [] (omega arith)) fits-bad)))))
+        fits-bad)
 
-trap-name : (f : Frame) (n k : ℕ) → kind-of f ≡ Trap n k → length (name-of f) ≡ k
-trap-name bad n k e = absurd (let z : _≡_ {A = ℕ} 0 1 = cc in omega arith)
-trap-name picks n k e = absurd (let z : _≡_ {A = ℕ} 0 1 = cc in omega arith)
-trap-name ticks n k e = absurd (let z : _≡_ {A = ℕ} 0 1 = cc in omega arith)
-trap-name (traps m registers name) n k e = cc
+-- a line of this kind is a bad one, a pick or a tick
+pub kind-bad : (f : Frame) → kind-of f ≡ Bad → f ≡ bad
+kind-bad bad e = refl
+kind-bad picks e = absurd (let z : _≡_ {A = ℕ} 0 1 = cc in omega arith)
+kind-bad ticks e = absurd (let z : _≡_ {A = ℕ} 0 1 = cc in omega arith)
+kind-bad (traps m registers name) e = absurd (let z : _≡_ {A = ℕ} 0 1 = cc in omega arith)
 
-pub name-short : (s : List ℕ) (n k : ℕ) → kind-of (frame s) ≡ Trap n k → k ≤ 223
-name-short s n k e = rw (trap-name (frame s) n k e) at (short-frame s .most)
+pub kind-pick : (f : Frame) → kind-of f ≡ Pick → f ≡ picks
+kind-pick bad e = absurd (let z : _≡_ {A = ℕ} 0 1 = cc in omega arith)
+kind-pick picks e = refl
+kind-pick ticks e = absurd (let z : _≡_ {A = ℕ} 0 1 = cc in omega arith)
+kind-pick (traps m registers name) e = absurd (let z : _≡_ {A = ℕ} 0 1 = cc in omega arith)
+
+pub kind-tick : (f : Frame) → kind-of f ≡ Tick → f ≡ ticks
+kind-tick bad e = absurd (let z : _≡_ {A = ℕ} 0 1 = cc in omega arith)
+kind-tick picks e = absurd (let z : _≡_ {A = ℕ} 0 1 = cc in omega arith)
+kind-tick ticks e = refl
+kind-tick (traps m registers name) e = absurd (let z : _≡_ {A = ℕ} 0 1 = cc in omega arith)
+
+-- a frame is the trap n with these registers and a name of k bytes
+pub record Trapped (f : Frame) (n k : ℕ) : Type 0 where
+  pub is : f ≡ traps n (registers-of f) (name-of f)
+  pub eight : length (registers-of f) ≡ 8
+  pub counts : length (name-of f) ≡ k
+  pub short : k ≤ 223
+
+kind-trap : (f : Frame) (n k : ℕ) → kind-of f ≡ Trap n k → Fits f → Trapped f n k
+kind-trap bad n k e h = absurd (let z : _≡_ {A = ℕ} 0 1 = cc in omega arith)
+kind-trap picks n k e h = absurd (let z : _≡_ {A = ℕ} 0 1 = cc in omega arith)
+kind-trap ticks n k e h = absurd (let z : _≡_ {A = ℕ} 0 1 = cc in omega arith)
+kind-trap (traps m registers name) n k e h =
+    let c : length name ≡ k = cc in
+    record { is = cc; eight = h .eight n k e; counts = c; short = rw c at (h .most) }
+
+pub trap-read : (s : List ℕ) (n k : ℕ) → kind-of (frame s) ≡ Trap n k → Trapped (frame s) n k
+trap-read s n k e = kind-trap (frame s) n k e (fits-frame s)

@@ -1,4 +1,5 @@
 // A session: a frame of hexadecimal a line, and an answer for each.
+mod answering;
 mod room;
 mod running;
 

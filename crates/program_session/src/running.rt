@@ -1,70 +1,17 @@
 use crate::Progress;
+use crate::answering;
 use crate::room;
 use libc::STDIN_FILENO;
-use program_lines::Line;
 ghost use mathlib.Core.Path.{_≡_};
 ghost use Prim.Native.Nat.{_≤_};
 ghost use lib.ListN.{length};
 
-// The key that a bad line gives: -15.
-const BAD: u32 = 0xFFFF_FFF1;
-
-// A bad line gives its key alone.
-fn write_bad(out: &mut [u8], used: usize) -> usize {
-    program_writing::write_answer(out, used, &[BAD])
-}
-
-// A pick gives its number and its key.
-fn write_pick(p: &mut [u32], out: &mut [u8], used: usize) -> usize {
-    let picked = manager::pick(p);
-    let answer = [picked.number, words::bits_of(picked.key)];
-    program_writing::write_answer(out, used, &answer)
-}
-
-// A tick gives its key.
-fn write_tick(p: &mut [u32], out: &mut [u8], used: usize) -> usize {
-    let answer = [words::bits_of(manager::tick(p))];
-    program_writing::write_answer(out, used, &answer)
-}
-
-// A trap gives its eight registers.
-fn write_trap(
-    p: &mut [u32],
-    trap: u32,
-    registers: &mut [u32],
-    name: &[u8],
-    out: &mut [u8],
-    used: usize,
-) -> usize {
-    manager::call(p, trap, registers, name);
-    program_writing::write_answer(out, used, registers)
-}
-
-// Answers a line, in the rooms that are lent for its registers and its name.
-fn answer_in(
-    p: &mut [u32],
-    line: &[u8],
-    registers: &mut [u32],
-    name: &mut [u8],
-    out: &mut [u8],
-    used: usize,
-) -> usize
-    requires { ⌜ 223 ≤ length (now name) ⌝ }
-{
-    let start = program_pieces::with_room(out, used);
-    match program_lines::read_line(line, registers, name) {
-        Line::Bad => write_bad(out, start),
-        Line::Pick => write_pick(p, out, start),
-        Line::Tick => write_tick(p, out, start),
-        Line::Trap(trap, count) => write_trap(p, trap, registers, &name[..count], out, start),
-    }
-}
-
 // Answers a line.
 fn answer_line(p: &mut [u32], line: &[u8], out: &mut [u8], used: usize) -> usize {
     let mut registers = room::registers_room();
-    let mut name = room::name_room();
-    answer_in(p, line, &mut registers, &mut name, out, used)
+    let count = answering::answer(p, line, &mut registers);
+    let start = program_pieces::with_room(out, used);
+    program_writing::write_answer(out, start, &registers[..count])
 }
 
 // Answers the line that a part of a chunk ends, straight from the chunk where nothing of it is kept.
