@@ -18,7 +18,7 @@ use Rattle.asking.specs.Next.{next-member}
 
 -- "$FF000000 if suspended, plus priority"
 abbrev pub suspended : ℕ
-suspended = 4278190080
+suspended = 0xFF00_0000
 
 unfoldable pub standing : List ℕ → ℕ → ℕ
 standing p k = cond (eqZ (timeout p k) (pos 0)) 0 suspended + priority p k

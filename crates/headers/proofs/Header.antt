@@ -10,8 +10,7 @@ use lib.Dec.{eqb}
 use native.Mathlib.Omega.{arith}
 use borrow.Author.Tests.{eqb-true, eqb-false}
 use Rattle.words.specs.Words.{word, put}
-use Rattle.headers.specs.Header.{header}
-use Rattle.headers.specs.Area.{Outside}
+use Rattle.headers.specs.Header.{header, Outside}
 
 pub length-header : (p : List ℕ) (i n k o s : ℕ) → length (header p i n k o s) ≡ length p
 unfolding header

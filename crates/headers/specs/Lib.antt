@@ -1,3 +1,2 @@
 -- The definitions that the contracts and the laws cite.
 pub mod Header
-pub mod Area

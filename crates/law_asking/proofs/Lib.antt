@@ -1,4 +1,5 @@
--- What $2 answers, and for whom.
+-- What $2 answers, for whom, and that it leaves the picture.
 pub mod Next
 pub mod Members
 pub mod Bench
+pub mod Kept

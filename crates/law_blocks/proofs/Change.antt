@@ -17,9 +17,10 @@ use Rattle.blocks.specs.Header.{kind, kind-of, free}
 use Rattle.blocks.specs.Walk.{good, next, starts, blocks}
 use Rattle.blocks.proofs.Walk.{Good, next-up}
 use Rattle.blocks.proofs.Starts.{starts-in, next-same}
-use Rattle.headers.specs.Area.{Apart, Blank, Outside}
-use Rattle.headers.specs.Area as area
-use Rattle.headers.proofs.Row.{Block}
+use Rattle.headers.specs.Header.{Outside}
+use Rattle.law_areas.specs.Area.{Apart, Blank}
+use Rattle.law_areas.specs.Area as area
+use Rattle.law_areas.proofs.Row.{Block}
 use Rattle.sound_matching.specs.Match.{area-of}
 use Rattle.sound_facts.proofs.Sound.{Tiled}
 use Rattle.sound_facts.proofs.Same.{Lives, AreaSame, blocks-same, tiled-same, kind-same, holder-same, starts-between}

@@ -16,8 +16,8 @@ use Rattle.picture.specs.declared.Area.the-variants.{Heap, Transient}
 use Rattle.blocks.specs.Header.{size, kind, queue-kind, job-kind, free, holder, start, queue-length, queue-oldest, queue-count, queue-zero}
 use Rattle.blocks.specs.Walk.{starts, blocks}
 use Rattle.blocks.proofs.Walk.{Good, is-good}
-use Rattle.headers.specs.Area.{Apart, Blank}
-use Rattle.headers.specs.Area as area
+use Rattle.law_areas.specs.Area.{Apart, Blank}
+use Rattle.law_areas.specs.Area as area
 use Rattle.sound_facts.proofs.Sound.{Queue, Fits, Tiled}
 use Rattle.sound_facts.proofs.Same.{Lives}
 

@@ -12,8 +12,8 @@ use Rattle.picture.specs.Layout.{heap-word, size-word, from, upto}
 use Rattle.picture.specs.declared.Area.{Area}
 use Rattle.blocks.specs.Header.{size, kind, free}
 use Rattle.blocks.specs.Walk.{blocks}
-use Rattle.headers.specs.Area.{Outside}
-use Rattle.headers.proofs.Row.{Block, block-of}
+use Rattle.headers.specs.Header.{Outside}
+use Rattle.law_areas.proofs.Row.{Block, block-of}
 use Rattle.placing.specs.Place.{placed}
 use Rattle.placing.proofs.Chosen.{Chosen}
 use Rattle.law_placing.proofs.Placed.{Placed, placed-keeps-the-area}

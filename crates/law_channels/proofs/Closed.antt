@@ -24,7 +24,7 @@ use Rattle.picture.proofs.Numbers.{Live, live-is, is-live}
 use Rattle.picture.proofs.Members.{Spares, holds-low, spares-past, spares-size, spares-current, spares-heap, spares-last, spares-other, members-same, jobs-apart}
 use Rattle.blocks.specs.Header.{kind-field, kind, kind-of, queue-kind, free}
 use Rattle.blocks.specs.Walk.{starts, blocks}
-use Rattle.headers.specs.Area.{Outside}
+use Rattle.headers.specs.Header.{Outside}
 use Rattle.sound_matching.specs.Match.{first, area-of, has-block}
 use Rattle.sound_matching.proofs.Counts.{Matches}
 use Rattle.sound_matching.proofs.Matched.{Matched}

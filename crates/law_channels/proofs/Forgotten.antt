@@ -13,8 +13,8 @@ use Rattle.picture.specs.Records.{slot, field, members}
 use Rattle.picture.specs.declared.Table.{Table}
 use Rattle.picture.proofs.Records.{slot-within}
 use Rattle.picture.proofs.Members.{Spares, spares-past, length-with-members, with-members-other, members-with}
-use Rattle.headers.specs.Area.{Outside}
-use Rattle.headers.proofs.Clear.{clear-other, clear-zeros}
+use Rattle.headers.specs.Header.{Outside}
+use Rattle.law_areas.proofs.Clear.{clear-other, clear-zeros}
 use Rattle.masks.specs.Masks.{without-bit}
 use Rattle.law_entering.proofs.Written.{Places, places}
 use Rattle.channels.specs.Effects.{forgotten}

@@ -16,8 +16,9 @@ use Rattle.picture.specs.declared.Area.the-variants.{Heap, Transient}
 use Rattle.blocks.specs.Header.{header-width, kind-field, holder-field, start-field, size, kind, free, holder, start}
 use Rattle.blocks.specs.Walk.{good, next, starts}
 use Rattle.blocks.proofs.Starts.{starts-in, next-same}
-use Rattle.headers.specs.Area.{Tiled, Apart, Blank, Outside, free-size, free-bytes}
-use Rattle.headers.proofs.Row.{Block, block-of}
+use Rattle.headers.specs.Header.{Outside}
+use Rattle.law_areas.specs.Area.{Tiled, Apart, Blank, free-size, free-bytes}
+use Rattle.law_areas.proofs.Row.{Block, block-of}
 use Rattle.sound_facts.proofs.Same.{starts-between}
 use Rattle.sound_facts.proofs.Sound.{Sound}
 use Rattle.freeing.specs.Sweep.{named, goes, swept}

@@ -25,9 +25,9 @@ use Rattle.picture.proofs.Members.{spares-size, spares-heap}
 use Rattle.blocks.specs.Header.{holder-field, size, kind, free, holder, job-kind}
 use Rattle.blocks.specs.Walk.{starts, blocks}
 use Rattle.blocks.proofs.Starts.{starts-in}
-use Rattle.headers.specs.Area.{free-bytes}
+use Rattle.law_areas.specs.Area.{free-bytes}
 use Rattle.headers.proofs.Header.{same-or-not}
-use Rattle.headers.proofs.Row.{block-of}
+use Rattle.law_areas.proofs.Row.{block-of}
 use Rattle.sound_matching.specs.Match.{has-block}
 use Rattle.sound.specs.Sound.{sound}
 use Rattle.sound_facts.proofs.Sound.{Sound}

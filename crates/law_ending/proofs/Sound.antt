@@ -25,7 +25,7 @@ use Rattle.picture.proofs.Numbers.{Live, live-is, is-live}
 use Rattle.blocks.specs.Header.{kind-field, holder-field, start-field, queue-length-field, queue-oldest-field, queue-count-field, queue-zero-field, size, kind, kind-of, queue-kind, job-kind, free, holder, start, queue-length, queue-oldest, queue-count, queue-zero, rounded}
 use Rattle.blocks.specs.Walk.{good, next, starts, blocks}
 use Rattle.headers.proofs.Header.{same-or-not}
-use Rattle.headers.proofs.Row.{block-of}
+use Rattle.law_areas.proofs.Row.{block-of}
 use Rattle.sound_matching.specs.Match.{first, area-of, has-block}
 use Rattle.sound_matching.proofs.Counts.{Matches}
 use Rattle.sound_matching.proofs.Matched.{Matched}

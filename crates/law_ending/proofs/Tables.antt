@@ -21,8 +21,8 @@ use Rattle.picture.proofs.Records.{slot-within, used-is, used-past}
 use Rattle.picture.proofs.Members.{Spares, holds-low, spares-past, positions-within, members-same, with-members-other, members-with}
 use Rattle.masks.specs.Masks.{set-width, without}
 use Rattle.masks.proofs.Masks.{without-at}
-use Rattle.headers.specs.Area.{Outside}
-use Rattle.headers.proofs.Clear.{clear-other, clear-zeros}
+use Rattle.headers.specs.Header.{Outside}
+use Rattle.law_areas.proofs.Clear.{clear-other, clear-zeros}
 use Rattle.freeing.specs.Sweep.{named}
 use Rattle.emptying.specs.Each.{each}
 use Rattle.emptying.specs.Taken.{waits, woken, blanked, emptied}

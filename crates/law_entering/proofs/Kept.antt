@@ -18,7 +18,7 @@ use Rattle.picture.specs.declared.Table.the-variants.{Jobs, Channels}
 use Rattle.picture.proofs.Records.{slot-within, positions-named, used-below, used-is}
 use Rattle.picture.proofs.Numbers.{Live, live-is, is-live}
 use Rattle.picture.proofs.Members.{Holds, Spares, holds-low, spares-past, spares-last, spares-other, members-same}
-use Rattle.headers.specs.Area.{Outside}
+use Rattle.headers.specs.Header.{Outside}
 use Rattle.headers.proofs.Header.{same-or-not}
 use Rattle.masks.proofs.Masks.{with-bit-here, with-bit-other}
 use Rattle.sound_matching.specs.Match.{first, has-block}

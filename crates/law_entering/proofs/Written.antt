@@ -15,8 +15,8 @@ use Rattle.picture.specs.declared.Table.{Table}
 use Rattle.picture.specs.declared.Table.the-variants.{Jobs, Channels}
 use Rattle.picture.proofs.Records.{slot-within}
 use Rattle.picture.proofs.Members.{Holds, Spares, holds-low, spares-past, spares-last, members-same, length-with-members, with-members-other, members-with}
-use Rattle.headers.specs.Area.{Outside}
-use Rattle.headers.proofs.Clear.{clear-other, clear-zeros}
+use Rattle.headers.specs.Header.{Outside}
+use Rattle.law_areas.proofs.Clear.{clear-other, clear-zeros}
 use Rattle.masks.specs.Masks.{with-bit}
 use Rattle.entering.specs.Entry.{recorded, counted, entered}
 use Rattle.law_blocks.proofs.Tables.{TablesSame, mask-same}

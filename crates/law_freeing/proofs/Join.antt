@@ -17,7 +17,7 @@ use Rattle.blocks.specs.Walk.{next, starts}
 use Rattle.blocks.proofs.Walk.{starts-end}
 use Rattle.blocks.proofs.Starts.{next-same}
 use Rattle.headers.specs.Header.{header}
-use Rattle.headers.specs.Area.{free-size}
+use Rattle.law_areas.specs.Area.{free-size}
 use Rattle.headers.proofs.Header.{length-header, header-all-zeros, header-zeros}
 use Rattle.freeing.specs.Sweep.{goes, freed, absorbed, sweep}
 use Rattle.freeing.proofs.Steps.{From, goes-same, freed-other, length-freed, length-absorbed, absorbed-other, sweep-end, sweep-used, sweep-first, sweep-absorb}

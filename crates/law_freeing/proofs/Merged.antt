@@ -14,10 +14,10 @@ use Rattle.words.specs.Each.{In}
 use Rattle.words.proofs.Tests.{lt-or-ge}
 use Rattle.blocks.specs.Header.{free}
 use Rattle.blocks.specs.Walk.{next, starts}
-use Rattle.headers.specs.Header.{header}
-use Rattle.headers.specs.Area.{Tiled, Apart, Blank, Outside}
+use Rattle.headers.specs.Header.{header, Outside}
+use Rattle.law_areas.specs.Area.{Tiled, Apart, Blank}
 use Rattle.headers.proofs.Header.{length-header, length-either, header-other, header-size, header-zeros, header-all-zeros}
-use Rattle.headers.proofs.Row.{block-of}
+use Rattle.law_areas.proofs.Row.{block-of}
 use Rattle.law_freeing.proofs.Neighbours.{next-block}
 use Rattle.freeing.specs.Sweep.{swept}
 use Rattle.law_freeing.proofs.Swept.{sweeping-keeps-the-area}

@@ -9,7 +9,7 @@ use Rattle.words.proofs.Tests.{lt-or-ge}
 use Rattle.blocks.specs.Walk.{next, starts}
 use Rattle.blocks.proofs.Walk.{next-up, starts-more}
 use Rattle.blocks.proofs.Starts.{starts-in}
-use Rattle.headers.proofs.Row.{in-second, in-either, parted-at}
+use Rattle.law_areas.proofs.Row.{in-second, in-either, parted-at}
 
 module _ (p : List ℕ) (base e : ℕ) where
   pub first-block : base < e → In base (starts p base e)

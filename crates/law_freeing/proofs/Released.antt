@@ -14,9 +14,10 @@ use Rattle.blocks.specs.Header.{size, kind, free, holder, start}
 use Rattle.blocks.specs.Walk.{next, starts}
 use Rattle.blocks.proofs.Walk.{next-le}
 use Rattle.blocks.proofs.Starts.{starts-in, next-same}
-use Rattle.headers.specs.Area.{Tiled, Apart, Blank, Outside}
+use Rattle.headers.specs.Header.{Outside}
+use Rattle.law_areas.specs.Area.{Tiled, Apart, Blank}
 use Rattle.headers.proofs.Header.{same-or-not}
-use Rattle.headers.proofs.Row.{block-of}
+use Rattle.law_areas.proofs.Row.{block-of}
 use Rattle.law_freeing.proofs.Neighbours.{first-block, next-block, blocks-in-order, in-some-block}
 use Rattle.law_freeing.proofs.Swept.{Swept}
 use Rattle.law_freeing.proofs.Alone.{the-block-at-a-goes, no-other-block-goes}

@@ -10,7 +10,7 @@ use Rattle.words.proofs.Tests.{lt-or-ge, false-true}
 use Rattle.blocks.specs.Header.{size, free}
 use Rattle.blocks.specs.Walk.{good, next, starts}
 use Rattle.blocks.proofs.Walk.{is-good, good-is, next-good, next-up, starts-more, starts-end}
-use Rattle.headers.specs.Area.{Tiled, Apart}
+use Rattle.law_areas.specs.Area.{Tiled, Apart}
 
 -- a whole block
 pub record Whole (p : List ℕ) (i : ℕ) : Type 0 where

@@ -11,8 +11,9 @@ use Rattle.words.specs.Each.{In, total}
 use Rattle.words.proofs.Tests.{false-true}
 use Rattle.blocks.specs.Header.{size, kind, free, holder, start}
 use Rattle.blocks.specs.Walk.{starts}
-use Rattle.headers.specs.Area.{Tiled, Apart, Blank, Outside, bytes, free-size, free-bytes, used-bytes}
-use Rattle.headers.proofs.Row.{total-sum, blocks-fill-the-area, free-and-used}
+use Rattle.headers.specs.Header.{Outside}
+use Rattle.law_areas.specs.Area.{Tiled, Apart, Blank, bytes, free-size, free-bytes, used-bytes}
+use Rattle.law_areas.proofs.Row.{total-sum, blocks-fill-the-area, free-and-used}
 use Rattle.freeing.specs.Sweep.{goes, sweep, swept}
 use Rattle.law_freeing.proofs.Goes.{goes-used}
 use Rattle.law_freeing.proofs.Rows.{tiled-row, spaced-row, row-tiled, spaced-apart}

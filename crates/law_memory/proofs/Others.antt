@@ -11,7 +11,7 @@ use Rattle.picture.specs.declared.Area.{Area}
 use Rattle.picture.specs.declared.Area.the-variants.{Heap}
 use Rattle.blocks.specs.Header.{size, free}
 use Rattle.blocks.specs.Walk.{blocks}
-use Rattle.headers.specs.Area.{free-bytes}
+use Rattle.law_areas.specs.Area.{free-bytes}
 use Rattle.law_freeing.proofs.Alone.{one-block-is-given-back}
 use Rattle.sound.specs.Sound.{sound}
 use Rattle.sound_facts.proofs.Sound.{Sound}

@@ -23,7 +23,7 @@ use Rattle.picture.proofs.Members.{Holds, Spares, holds-low, spares-past, spare
 use Rattle.blocks.specs.Header.{header-width, kind-field, holder-field, start-field, queue-length-field, queue-oldest-field, queue-count-field, queue-zero-field, queue-bytes-field, with-queue-length, size, kind, queue-kind, free, holder, start, queue-length, queue-oldest, queue-count, queue-zero, rounded}
 use Rattle.blocks.specs.Walk.{starts, blocks}
 use Rattle.blocks.proofs.Starts.{starts-in}
-use Rattle.headers.specs.Area.{Outside}
+use Rattle.headers.specs.Header.{Outside}
 use Rattle.placing.specs.Place.{placed}
 use Rattle.law_placing.proofs.Placed.{Placed}
 use Rattle.placing.proofs.Chosen.{Chosen}

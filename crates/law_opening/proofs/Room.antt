@@ -14,7 +14,7 @@ use Rattle.blocks.specs.Header.{header-width, size, free}
 use Rattle.blocks.specs.Walk.{good, next, starts, blocks}
 use Rattle.blocks.proofs.Walk.{Good, is-good, next-good}
 use Rattle.blocks.proofs.Starts.{starts-in, next-same}
-use Rattle.headers.specs.Area.{Outside}
+use Rattle.headers.specs.Header.{Outside}
 use Rattle.headers.proofs.Header.{same-or-not}
 use Rattle.sound_facts.proofs.Same.{within, next-in}
 use Rattle.law_blocks.proofs.Moved.{Kept}

@@ -3,7 +3,7 @@ use Prim.Native.Nat.{ℕ, _%_, _≤_}
 use mathlib.Core.Path.{_≡_, sym, _∙_}
 use mathlib.Core.List.{List}
 use lib.ListN.{length}
-use Rattle.headers.specs.Area.{Tiled}
+use Rattle.law_areas.specs.Area.{Tiled}
 use Rattle.placing.specs.Place.{placed, Placing}
 use Rattle.placing.specs.declared.Placement.{Placement}
 use Rattle.placing.specs.declared.Placement.the-variants.{At, Nowhere}

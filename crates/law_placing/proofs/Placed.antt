@@ -16,8 +16,9 @@ use Rattle.blocks.specs.Header.{size, kind, free, holder, start}
 use Rattle.blocks.specs.Walk.{good, next, starts}
 use Rattle.blocks.proofs.Walk.{good-is, is-good, next-good, next-up, starts-more}
 use Rattle.blocks.proofs.Starts.{starts-in, starts-same, next-same}
-use Rattle.headers.specs.Area.{Tiled, Apart, Blank, Outside, bytes, free-size, free-bytes, used-bytes}
-use Rattle.headers.proofs.Row.{in-first, in-second, in-either, total-parts, Block, block-of, blocks-fill-the-area, free-and-used, Parted, parted-at}
+use Rattle.headers.specs.Header.{Outside}
+use Rattle.law_areas.specs.Area.{Tiled, Apart, Blank, bytes, free-size, free-bytes, used-bytes}
+use Rattle.law_areas.proofs.Row.{in-first, in-second, in-either, total-parts, Block, block-of, blocks-fill-the-area, free-and-used, Parted, parted-at}
 use Rattle.placing.specs.Place.{placed}
 use Rattle.placing.proofs.Chosen.{Chosen}
 use Rattle.law_placing.proofs.Written.{Room, Written, placed-is-written}

@@ -11,10 +11,9 @@ use Rattle.words.specs.Words.{word}
 use Rattle.words.proofs.Words.{length-clear}
 use Rattle.words.proofs.Tests.{lt-or-ge}
 use Rattle.blocks.specs.Header.{size, kind, holder, start}
-use Rattle.headers.specs.Header.{header}
-use Rattle.headers.specs.Area.{Outside}
+use Rattle.headers.specs.Header.{header, Outside}
 use Rattle.headers.proofs.Header.{length-header, length-either, header-other, header-size, header-kind, header-owner, header-start}
-use Rattle.headers.proofs.Clear.{clear-other, clear-zeros}
+use Rattle.law_areas.proofs.Clear.{clear-other, clear-zeros}
 use Rattle.placing.specs.Place.{split, placed}
 
 -- the block at r has room for n bytes

@@ -38,7 +38,7 @@ use Rattle.jobs.specs.Calls.{job, information, suspend, release, activate, set-
 use Rattle.law_jobs.proofs.Passed.{stand, suspend-ways, release-ways, activate-ways, set-priority-ways}
 use Rattle.law_jobs.proofs.Effects.{suspended-written, prioritized-written}
 use Rattle.asking.specs.Ask.{ask}
-use Rattle.asking.proofs.Call.{ask-leaves-the-picture}
+use Rattle.law_asking.proofs.Kept.{ask-leaves-the-picture}
 use Rattle.memory.specs.Memory.{longest-room, taken, take, given-back, give-back}
 use Rattle.law_memory.proofs.Ways.{take-ways, give-back-ways}
 use Rattle.law_memory.proofs.Kept.{taken-tables, given-back-tables}

@@ -23,7 +23,7 @@ use Rattle.law_turns.proofs.Tick.{tick-keeps-sound}
 use Rattle.manager.proofs.Door.{checked-unsound, called-otherwise, called-with-eight}
 use Rattle.law_promises.specs.Door.{OnlyKeyWritten, RefusalWritesOnlyD0, OtherRegistersRefused, Unsound, UnsoundIsRefused, CallKeepsSound, PickKeepsSound, TickKeepsSound, Same, WhateverMeetsIsEqual}
 use Rattle.law_promises.proofs.Calls.{EachCall, each-call}
-use Rattle.asking.proofs.Call.{ask-keeps-sound}
+use Rattle.law_asking.proofs.Kept.{ask-keeps-sound}
 use Rattle.law_creating.proofs.Kept.{create-keeps-sound}
 use Rattle.law_ending.proofs.Calls.{remove-keeps-sound, force-remove-keeps-sound}
 use Rattle.law_memory.proofs.Kept.{longest-room-keeps-sound, take-keeps-sound, give-back-keeps-sound}

@@ -32,7 +32,7 @@ use Rattle.law_ending.proofs.Promise.{ending-leaves-others, ending-takes-the-tr
 use Rattle.law_promises.proofs.Calls.{EachCall, each-call}
 use Rattle.law_promises.proofs.Door.{checked-by, call-keeps-sound, pick-keeps, tick-keeps}
 use Rattle.law_jobs.proofs.Kept.{information-ages, suspend-ages, release-ages, activate-ages, set-priority-ages}
-use Rattle.asking.proofs.Call.{ask-ages}
+use Rattle.law_asking.proofs.Kept.{ask-ages}
 use Rattle.law_creating.proofs.Kept.{create-ages}
 use Rattle.law_ending.proofs.Calls.{remove-ages, force-remove-ages}
 use Rattle.law_memory.proofs.Kept.{longest-room-ages, take-ages, give-back-ages}

@@ -10,7 +10,7 @@ use Rattle.words.specs.Words.{word}
 use Rattle.picture.specs.Numbers.{position}
 use Rattle.picture.specs.declared.Table.{Table}
 use Rattle.blocks.specs.Header.{queue-oldest-field, queue-zero-field, queue-bytes-field, size, queue-length, queue-oldest, queue-count, queue-zero}
-use Rattle.headers.specs.Area.{Outside}
+use Rattle.headers.specs.Header.{Outside}
 use Rattle.sound.specs.Sound.{sound}
 use Rattle.sound_facts.proofs.Sound.{Queue, Sound}
 use Rattle.sound_facts.proofs.View.{view, sound-again}

@@ -19,7 +19,7 @@ use Rattle.blocks.specs.Header.{header-width, queue-length-field, queue-oldest-
 use Rattle.blocks.specs.Walk.{good, next, starts, blocks}
 use Rattle.blocks.proofs.Walk.{Good, is-good, next-good}
 use Rattle.blocks.proofs.Starts.{starts-in, next-same}
-use Rattle.headers.specs.Area.{Outside}
+use Rattle.headers.specs.Header.{Outside}
 use Rattle.headers.proofs.Header.{same-or-not}
 use Rattle.sound_matching.specs.Match.{area-of}
 use Rattle.sound_facts.proofs.Sound.{Sizes, Queue, Fits, Tiled, Sound}

@@ -47,7 +47,7 @@ pub fn answer(p: &mut [u32], line: &[u8], registers: &mut [u32]) -> usize
         Line::Tick => tick(p, registers),
         Line::Trap(trap, count) => {
             manager::call(p, trap, registers, &name[..count]);
-            8
+            calls::REGISTERS
         }
     }
 }

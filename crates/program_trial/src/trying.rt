@@ -61,11 +61,11 @@ fn try_call(p: &mut [u32], call: Call, registers: &mut [u32], field: &[u8]) {
 
 // Answers a line that asks for a call.
 pub fn answer_call(line: &[u8]) {
-    let mut picture = room::picture_room();
+    let mut p = room::picture_room();
     let mut registers = room::registers_room();
-    match program_fields::read_trial(&mut picture, line, &mut registers) {
+    match program_fields::read_trial(&mut p, line, &mut registers) {
         Trial::Good(call, first, count, size) => try_call(
-            &mut picture[..size],
+            &mut p[..size],
             call,
             &mut registers[..count],
             &line[..first],

@@ -6,10 +6,10 @@ const SIZE: u32 = 1024;
 const HEAP: u32 = 256;
 
 fn main() {
-    let mut picture = program_session::picture_room();
+    let mut p = program_session::picture_room();
     let mut chunk = io::large_buffer();
     let mut line = program_session::line_room();
     let mut out = io::large_buffer();
-    manager::fresh(&mut picture, SIZE, HEAP);
-    program_session::answer_all(&mut picture, &mut chunk, &mut line, &mut out);
+    manager::fresh(&mut p, SIZE, HEAP);
+    program_session::answer_all(&mut p, &mut chunk, &mut line, &mut out);
 }

@@ -4,40 +4,28 @@ use Rattle.program_fields.proofs.Parts.{counted}
 use borrow.Author.Needs.{needs}
 use Rattle.program_trial.proofs.running.take.Statement.{statement}
 use Rattle.program_trial.proofs.running.take.Tie as tie
-use Rattle.program_trial.proofs.running.take.Reads as reads
-use Rattle.program_trial.proofs.running.take.Lts as lts
-use Rattle.program_trial.proofs.running.answer_line.Reads as answer-line-reads
-use Rattle.program_writing.proofs.write_character.Reads as write-character-reads
 
--- src/running.rt:22:21
 slice-reshare-prefix-answer-line : tie.Need-slice-reshare-prefix-answer-line
 slice-reshare-prefix-answer-line c = search needs
 
--- src/running.rt:22:21
 slice-aggregate-answer-line : tie.Need-slice-aggregate-answer-line
 slice-aggregate-answer-line c = let s = c .before .before .before in counted (s .args .kept) (s .args .line .now) (s .pre)
 
--- src/running.rt:22:9
 answer-line-requires : tie.Need-answer-line-requires
 answer-line-requires c κs = search needs
 
--- src/running.rt:23:9
 same-length : tie.Need-same-length
 same-length c = search needs
 
--- src/running.rt:23:9
 returns : tie.Need-returns
 returns c = search needs
 
--- src/running.rt:25:5
 write-character-requires : tie.Need-write-character-requires
 write-character-requires c κs = search needs
 
--- src/running.rt:17:1
 same-length-2 : tie.Need-same-length-2
 same-length-2 c = search needs
 
--- src/running.rt:17:1
 returns-2 : tie.Need-returns-2
 returns-2 c =
     let w = c .before .before in

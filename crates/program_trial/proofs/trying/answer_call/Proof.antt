@@ -35,8 +35,8 @@ read-trial-requires c κs = search needs
 enum-known-call : tie.Need-enum-known-call
 enum-known-call c = search needs
 
-array-borrow-prefix-picture : tie.Need-array-borrow-prefix-picture
-array-borrow-prefix-picture c = fit (c .before) .0
+array-borrow-prefix-p : tie.Need-array-borrow-prefix-p
+array-borrow-prefix-p c = fit (c .before) .0
 
 slice-aggregate-try-call : tie.Need-slice-aggregate-try-call
 slice-aggregate-try-call c = counted _ _ (fit (c .before .before) .0)
@@ -75,7 +75,7 @@ answer-call-spec =
     slice-aggregate-read-trial-2
     read-trial-requires
     enum-known-call
-    array-borrow-prefix-picture
+    array-borrow-prefix-p
     slice-aggregate-try-call
     array-borrow-prefix-registers
     slice-aggregate-try-call-2

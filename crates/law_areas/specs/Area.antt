@@ -1,9 +1,8 @@
 -- What document 01 says of the blocks of an area, here the longwords from base up to e.
-use Prim.Native.Nat.{ℕ, _<_, _≤_}
+use Prim.Native.Nat.{ℕ, _<_}
 use mathlib.Core.Path.{_≡_}
 use mathlib.Core.Bool.{true, false, cond}
 use mathlib.Core.List.{List}
-use mathlib.Core.Logic.{_⊎_}
 use Rattle.words.specs.Each.{In, total}
 use Rattle.blocks.specs.Header.{size, free, holder, start}
 use Rattle.blocks.specs.Walk.{good, next, starts}
@@ -19,10 +18,6 @@ Apart p base e = (i : ℕ) → In i (starts p base e) → free p i ≡ true → 
 -- "a free header is length, 0, 0, 0"
 abbrev pub Blank : List ℕ → ℕ → ℕ → Type 0
 Blank p base e = (i : ℕ) → In i (starts p base e) → free p i ≡ true → (holder p i ≡ 0) × (start p i ≡ 0)
-
--- outside the longwords from a up to b
-abbrev pub Outside : ℕ → ℕ → ℕ → Type 0
-Outside a b k = (k < a) ⊎ (b ≤ k)
 
 -- the bytes of the blocks of an area
 abbrev pub bytes : List ℕ → ℕ → ℕ → ℕ

@@ -7,8 +7,8 @@ use lib.ListN.{length, length-set}
 use lib.Seq.{getD-set-same, getD-set-other}
 use native.Mathlib.Omega.{arith}
 use Rattle.words.specs.Words.{word, put, clear}
-use Rattle.headers.specs.Area.{Outside}
+use Rattle.headers.specs.Header.{Outside}
 use Rattle.headers.proofs.Header.{same-or-not}
 
 pub clear-other : (n : ℕ) (p : List ℕ) (i j : ℕ) → Outside i (i + n) j → word (clear n p i) j ≡ word p j
 unfolding clear

@@ -12,7 +12,7 @@ use Rattle.blocks.specs.Header.{size, free}
 use Rattle.blocks.specs.Walk.{next, starts}
 use Rattle.blocks.proofs.Walk.{is-good, next-good, next-up, starts-end, starts-more}
 use Rattle.blocks.proofs.Starts.{starts-in, next-same}
-use Rattle.headers.specs.Area.{Tiled, bytes, free-size, used-size, free-bytes, used-bytes}
+use Rattle.law_areas.specs.Area.{Tiled, bytes, free-size, used-size, free-bytes, used-bytes}
 
 -- members of two lists, one after the other
 pub in-first : (l m : List ℕ) (j : ℕ) → In j l → In j (l ++ m)

@@ -1,0 +1,2 @@
+-- What the laws say of the blocks of an area.
+pub mod Area

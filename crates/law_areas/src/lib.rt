@@ -1,0 +1,1 @@
+// The blocks of an area as a row, in the words of document 01: laws only.
