@@ -11,7 +11,7 @@ use Rattle.picture.specs.Numbers.{tag, job-at}
 use Rattle.picture.specs.Keys.{invalid-job}
 use Rattle.picture.specs.declared.Table.the-variants.{Jobs}
 use Rattle.calls.specs.Call.{Call}
-use Rattle.calls.specs.Found.{job-check, place-of-job}
+use Rattle.calls.specs.Found.{job-check, place-of-job, job-position}
 use Rattle.calls.specs.Registers.{D1, D2, with-D1, with-D2, with-D3, with-A0, with-A1, meant}
 use Rattle.tree.specs.Tree.{in-tree, tree}
 use Rattle.asking.specs.Next.{next-member}
@@ -34,12 +34,9 @@ room p k = cond (eqb k 0) 0 (base p Jobs k + header-bytes)
 unfoldable pub answered : List ℕ → List ℕ → ℕ → ℕ → List ℕ
 answered p d t k = with-A1 0 (with-A0 (room p k) (with-D3 (standing p k) (with-D2 (owner p Jobs k) (with-D1 (next-member p (tree p t) (tag (number p Jobs k))) d))))
 
--- where the job D2 stands, and the job that D1 means
+-- where the job D2 stands
 abbrev pub top-position : List ℕ → List ℕ → ℕ
 top-position p d = place-of-job p (D2 d)
-
-abbrev pub job-position : List ℕ → List ℕ → ℕ
-job-position p d = place-of-job p (meant p (D1 d))
 
 unfoldable pub ask : Call
 ask p d = record {

@@ -10,6 +10,7 @@ use Rattle.picture.specs.declared.JobFound.the-variants as job
 use Rattle.picture.specs.declared.ChannelFound.{ChannelFound}
 use Rattle.picture.specs.declared.ChannelFound.the-variants as channel
 use Rattle.calls.specs.Call.{Check}
+use Rattle.calls.specs.Registers.{D1, meant}
 
 abbrev pub job-check : JobFound → Check
 job-check (job.At k) = (true, done)
@@ -33,3 +34,7 @@ place-of-job p n = job-place (job-at p n)
 
 abbrev pub place-of-channel : List ℕ → ℕ → ℕ
 place-of-channel p n = channel-place (channel-at p n)
+
+-- where the job that D1 means stands
+abbrev pub job-position : List ℕ → List ℕ → ℕ
+job-position p d = place-of-job p (meant p (D1 d))

@@ -19,7 +19,7 @@ use Rattle.creating.specs.declared.OwnerFound.the-variants.{Of, Dead}
 
 -- "D1 negative as a long"
 abbrev pub negative : ℕ → Bool
-negative n = leb 2147483648 n
+negative n = leb 0x8000_0000 n
 
 -- "no owner; otherwise D1 must be live (-2) and the new job is owned by the caller"
 unfoldable pub owner-found : List ℕ → ℕ → OwnerFound

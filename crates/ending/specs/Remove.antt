@@ -11,7 +11,7 @@ use Rattle.picture.specs.Numbers.{job-at}
 use Rattle.picture.specs.Keys.{not-complete, bad-parameter}
 use Rattle.picture.specs.declared.Table.the-variants.{Jobs}
 use Rattle.calls.specs.Call.{Check, Call}
-use Rattle.calls.specs.Found.{job-check, place-of-job}
+use Rattle.calls.specs.Found.{job-check, job-position}
 use Rattle.calls.specs.Registers.{D1, D3, cleared, meant}
 use Rattle.tree.specs.Tree.{tree}
 use Rattle.ending.specs.Ended.{ended}
@@ -24,23 +24,19 @@ at-rest p m k = not (bit m k && active p k)
 unfoldable pub inactive : List ℕ → ℕ → Bool
 inactive p m = every (at-rest p m) (positions Jobs)
 
--- where the job that D1 means stands
-abbrev pub asked : List ℕ → List ℕ → ℕ
-asked p d = place-of-job p (meant p (D1 d))
-
 -- what both are, where `still` is what $4 checks besides
 unfoldable pub removal : List Check → Call
 removal still p d = record {
   checks =
       job-check (job-at p (meant p (D1 d))) ∷
-      (not (eqb (asked p d) 0), bad-parameter) ∷ still;
-  picture = ended p (asked p d) (D3 d);
+      (not (eqb (job-position p d) 0), bad-parameter) ∷ still;
+  picture = ended p (job-position p d) (D3 d);
   registers = cleared d;
 }
 
 -- $4: "whole tree inactive"
 unfoldable pub remove : Call
-remove p d = removal ((inactive p (tree p (asked p d)), not-complete) ∷ []) p d
+remove p d = removal ((inactive p (tree p (job-position p d)), not-complete) ∷ []) p d
 
 -- $5
 unfoldable pub force-remove : Call

@@ -8,9 +8,9 @@ use Rattle.picture.specs.declared.Table.the-variants.{Jobs}
 use Rattle.picture.specs.declared.JobFound.{JobFound}
 use Rattle.picture.specs.declared.JobFound.the-variants.{At, Dead}
 use Rattle.calls.specs.Registers.{D1, meant}
-use Rattle.calls.specs.Found.{job-place}
+use Rattle.calls.specs.Found.{job-place, job-position}
 use Rattle.calls.proofs.Found.{job-found}
-use Rattle.jobs.specs.Calls.{job, job-position}
+use Rattle.jobs.specs.Calls.{job}
 
 -- the code's number m and position k are those of the job that D1 means, which is live
 pub record Found (p d : List ℕ) (m k : ℕ) : Type 0 where

@@ -12,13 +12,14 @@ use Rattle.picture.specs.declared.JobFound.the-variants.{Dead}
 use Rattle.picture.specs.Layout.{greatest-priority}
 use Rattle.timeouts.specs.Timeout.{timeout-in, value}
 use Rattle.timeouts.specs.declared.Timeout.{Timeout}
+use Rattle.calls.specs.Found.{job-position}
 use Rattle.calls.specs.Outcome.{Outcome, succeed, Meets}
 use Rattle.calls.specs.Call.{outcome}
 use Rattle.calls.specs.Registers.{D2, D3, A1, caller}
 use Rattle.calls.specs.Writes.{with-nobody}
 use Rattle.calls.proofs.Outcome.{meets-refuse}
 use Rattle.effects.specs.Effects.{naming, suspends, suspended, released, low-byte, activity-good, prioritized, may-wait, waiting}
-use Rattle.jobs.specs.Calls.{job, job-position, suspend, release, activate, set-priority}
+use Rattle.jobs.specs.Calls.{job, suspend, release, activate, set-priority}
 use Rattle.jobs.proofs.Found.{Found}
 
 -- an outcome that succeeds, with the code's names for its parts

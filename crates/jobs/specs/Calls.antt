@@ -8,7 +8,7 @@ use Rattle.picture.specs.Records.{active}
 use Rattle.picture.specs.Numbers.{position, job-at}
 use Rattle.timeouts.specs.Timeout.{timeout-in, value}
 use Rattle.calls.specs.Call.{Call}
-use Rattle.calls.specs.Found.{job-check, place-of-job}
+use Rattle.calls.specs.Found.{job-check, job-position}
 use Rattle.calls.specs.Registers.{D1, D2, D3, A1, with-D1, with-D2, with-A0, caller, meant}
 use Rattle.calls.specs.Writes.{with-nobody}
 use Rattle.effects.specs.Effects.{naming, suspends, suspended, released, low-byte, priority-good, activity-good, prioritized, may-wait, waiting}
@@ -25,12 +25,9 @@ information p d = record {
   registers = with-A0 0 (with-D2 version (with-D1 (caller p) d));
 }
 
--- the number of the job that D1 means, and where it stands
+-- the number of the job that D1 means
 abbrev pub job : List ℕ → List ℕ → ℕ
 job p d = meant p (D1 d)
-
-abbrev pub job-position : List ℕ → List ℕ → ℕ
-job-position p d = place-of-job p (job p d)
 
 -- "$8: live; D3's low word 1 to 32,767 or -1, A1 0 (else -15). Sets the timeout, ends any wait, clears accumulated and key."
 unfoldable pub suspend : Call

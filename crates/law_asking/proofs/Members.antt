@@ -11,7 +11,7 @@ use Rattle.picture.proofs.Numbers.{live-is}
 use Rattle.sound.specs.Sound.{sound}
 use Rattle.calls.specs.Outcome.{Outcome}
 use Rattle.calls.specs.Call.{Check, outcome}
-use Rattle.calls.specs.Found.{job-check}
+use Rattle.calls.specs.Found.{job-check, job-position}
 use Rattle.calls.proofs.Call.{where-all-pass, done-only-where-all-pass, refusals}
 use Rattle.calls.proofs.Found.{job-stands, live-job-passes, job-that-passes-is-live, job-check-gives-no-other}
 use Rattle.calls.specs.Registers.{D1, D2, meant}
@@ -19,7 +19,7 @@ use Rattle.tree.specs.Tree.{in-tree}
 use Rattle.law_owners.specs.Under.{Under}
 use Rattle.law_owners.proofs.Members.{in-tree-says, in-tree-has}
 use Rattle.law_owners.proofs.Owners.{owners-in-order}
-use Rattle.asking.specs.Ask.{top-position, job-position, ask}
+use Rattle.asking.specs.Ask.{top-position, ask}
 
 -- D2 is live, D1 is live and in the tree of D2
 pub record Asked (p d : List ℕ) : Type 0 where

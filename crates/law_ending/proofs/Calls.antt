@@ -18,6 +18,7 @@ use Rattle.picture.proofs.Members.{spares-last}
 use Rattle.sound.specs.Sound.{sound}
 use Rattle.sound_facts.proofs.View.{view}
 use Rattle.sound_facts.proofs.Ages.{Ages, ages-still}
+use Rattle.calls.specs.Found.{job-position}
 use Rattle.calls.specs.Outcome.{Outcome, refuse, succeed}
 use Rattle.calls.specs.Call.{Check, outcome}
 use Rattle.calls.specs.Registers.{D1, D3, cleared, meant}
@@ -26,19 +27,19 @@ use Rattle.calls.proofs.Found.{job-stands, job-that-passes-is-live}
 use Rattle.tree.specs.Tree.{tree}
 use Rattle.emptying.specs.Taken.{channels-of}
 use Rattle.ending.specs.Ended.{ended}
-use Rattle.ending.specs.Remove.{asked, removal, remove, force-remove}
+use Rattle.ending.specs.Remove.{removal, remove, force-remove}
 use Rattle.law_ending.proofs.Taken.{Taken}
 use Rattle.law_ending.proofs.Sound.{ended-tables, ended-is-no-newer, ending-keeps-sound}
 
 -- what holds of every refusal, and of what the call does where its checks pass, holds of the call
 module _ (p d : List ℕ) (P : Outcome → Type 0) (refused : (k : ℤ) → P (refuse k p d))
-    (ends : used p Jobs (asked p d) ≡ true → (asked p d ≡ 0 → ⊥) → P (succeed (ended p (asked p d) (D3 d)) (cleared d))) where
+    (ends : used p Jobs (job-position p d) ≡ true → (job-position p d ≡ 0 → ⊥) → P (succeed (ended p (job-position p d) (D3 d)) (cleared d))) where
   of-removal : (still : List Check) → P (outcome (removal still) p d)
   unfolding removal
   of-removal still = of-each-way (removal still) p d P refused
       (λ h.
       let l = job-that-passes-is-live p (meant p (D1 d)) (search) in
-      ends (rw (job-stands p (meant p (D1 d)) l) (live-is p Jobs (meant p (D1 d)) l .used)) (eqb-false (asked p d) 0 (not-true (eqb (asked p d) 0) (search))))
+      ends (rw (job-stands p (meant p (D1 d)) l) (live-is p Jobs (meant p (D1 d)) l .used)) (eqb-false (job-position p d) 0 (not-true (eqb (job-position p d) 0) (search))))
 
   pub of-remove : P (outcome remove p d)
   unfolding remove outcome
@@ -52,19 +53,19 @@ module _ (p d : List ℕ) where
   -- a sound picture stays sound
   module _ (s : sound p ≡ true) where
     pub remove-keeps-sound : sound (outcome remove p d .picture) ≡ true
-    remove-keeps-sound = of-remove p d (λ (o : Outcome). sound (o .picture) ≡ true) (λ k. s) (λ u z. ending-keeps-sound p (asked p d) (D3 d) s u z)
+    remove-keeps-sound = of-remove p d (λ (o : Outcome). sound (o .picture) ≡ true) (λ k. s) (λ u z. ending-keeps-sound p (job-position p d) (D3 d) s u z)
 
     pub force-remove-keeps-sound : sound (outcome force-remove p d .picture) ≡ true
-    force-remove-keeps-sound = of-force-remove p d (λ (o : Outcome). sound (o .picture) ≡ true) (λ k. s) (λ u z. ending-keeps-sound p (asked p d) (D3 d) s u z)
+    force-remove-keeps-sound = of-force-remove p d (λ (o : Outcome). sound (o .picture) ≡ true) (λ k. s) (λ u z. ending-keeps-sound p (job-position p d) (D3 d) s u z)
 
     -- tags rise
-    ended-ages : (t : Table) → used p Jobs (asked p d) ≡ true → (asked p d ≡ 0 → ⊥) → Ages p (ended p (asked p d) (D3 d)) t
-    ended-ages t u z = record { rises = same t; newer = λ n l. inl (ended-is-no-newer p (view p s) (asked p d) (D3 d) u z t n l) }
+    ended-ages : (t : Table) → used p Jobs (job-position p d) ≡ true → (job-position p d ≡ 0 → ⊥) → Ages p (ended p (job-position p d) (D3 d)) t
+    ended-ages t u z = record { rises = same t; newer = λ n l. inl (ended-is-no-newer p (view p s) (job-position p d) (D3 d) u z t n l) }
       where
-        T : Taken p (ended p (asked p d) (D3 d)) (tree p (asked p d)) (channels-of p (tree p (asked p d))) (D3 d)
-        T = ended-tables p (view p s) (asked p d) (D3 d) u z
+        T : Taken p (ended p (job-position p d) (D3 d)) (tree p (job-position p d)) (channels-of p (tree p (job-position p d))) (D3 d)
+        T = ended-tables p (view p s) (job-position p d) (D3 d) u z
 
-        same : (t : Table) → word p (last-word t) ≤ word (ended p (asked p d) (D3 d)) (last-word t)
+        same : (t : Table) → word p (last-word t) ≤ word (ended p (job-position p d) (D3 d)) (last-word t)
         same Jobs = rw (T .head (last-word Jobs) (omega arith) (λ z. omega arith) (λ t. spares-last t Jobs)) (omega arith)
         same Channels = rw (T .head (last-word Channels) (omega arith) (λ z. omega arith) (λ t. spares-last t Channels)) (omega arith)
 

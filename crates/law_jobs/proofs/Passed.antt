@@ -10,6 +10,7 @@ use Rattle.picture.specs.Records.{active}
 use Rattle.picture.specs.Numbers.{position, live}
 use Rattle.picture.specs.declared.Table.the-variants.{Jobs}
 use Rattle.timeouts.specs.Timeout.{timeout-in, value}
+use Rattle.calls.specs.Found.{job-position}
 use Rattle.calls.specs.Outcome.{Outcome, refuse, succeed}
 use Rattle.calls.specs.Call.{outcome}
 use Rattle.calls.specs.Registers.{D2, D3, A1, caller}
@@ -17,7 +18,7 @@ use Rattle.calls.specs.Writes.{with-nobody}
 use Rattle.calls.proofs.Call.{of-each-way}
 use Rattle.calls.proofs.Found.{job-stands, job-that-passes-is-live}
 use Rattle.effects.specs.Effects.{naming, suspends, suspended, released, low-byte, priority-good, activity-good, prioritized, may-wait, waiting}
-use Rattle.jobs.specs.Calls.{job, job-position, suspend, release, activate, set-priority}
+use Rattle.jobs.specs.Calls.{job, suspend, release, activate, set-priority}
 
 -- where the live job that D1 means stands
 abbrev pub stand : List ℕ → List ℕ → ℕ

@@ -21,6 +21,7 @@ use Rattle.sound_facts.proofs.Sound.{Sizes, Sound}
 use Rattle.sound_facts.proofs.View.{view}
 use Rattle.rooms.specs.Room.{header-byte}
 use Rattle.rooms.proofs.Sizes.{areas-lie-in-a-sound-picture}
+use Rattle.calls.specs.Found.{job-position}
 use Rattle.calls.specs.Outcome.{Outcome}
 use Rattle.calls.specs.Call.{outcome}
 use Rattle.calls.specs.Registers.{A0, D1, D3, meant}
@@ -35,7 +36,7 @@ use Rattle.law_picks.specs.Stretch.{Stands, Quiet}
 use Rattle.tree.specs.Tree.{tree}
 use Rattle.emptying.specs.Taken.{channels-of}
 use Rattle.ending.specs.Ended.{ended}
-use Rattle.ending.specs.Remove.{asked, remove, force-remove}
+use Rattle.ending.specs.Remove.{remove, force-remove}
 use Rattle.law_ending.proofs.Taken.{Taken, taken-gains}
 use Rattle.law_ending.proofs.Sound.{ended-tables}
 use Rattle.law_ending.proofs.Calls.{of-remove, of-force-remove}
@@ -138,8 +139,8 @@ module _ (p : List ℕ) (s : sound p ≡ true) (t key : ℕ) (u : used p Jobs t 
 
 pub remove-is-quiet : (n j g : ℕ) → j < positions Jobs → (p d : List ℕ) → sound p ≡ true → Stands n j g (outcome remove p d .picture) → Quiet j p (outcome remove p d .picture)
 remove-is-quiet n j g l p d s = of-remove p d (λ (o : Outcome). Stands n j g (o .picture) → Quiet j p (o .picture)) (λ k _. nothing-is-quiet j p)
-    (λ u z. ended-is-quiet p s (asked p d) (D3 d) u z n j g l)
+    (λ u z. ended-is-quiet p s (job-position p d) (D3 d) u z n j g l)
 
 pub force-remove-is-quiet : (n j g : ℕ) → j < positions Jobs → (p d : List ℕ) → sound p ≡ true → Stands n j g (outcome force-remove p d .picture) → Quiet j p (outcome force-remove p d .picture)
 force-remove-is-quiet n j g l p d s = of-force-remove p d (λ (o : Outcome). Stands n j g (o .picture) → Quiet j p (o .picture)) (λ k _. nothing-is-quiet j p)
-    (λ u z. ended-is-quiet p s (asked p d) (D3 d) u z n j g l)
+    (λ u z. ended-is-quiet p s (job-position p d) (D3 d) u z n j g l)

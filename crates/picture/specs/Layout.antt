@@ -10,7 +10,7 @@ use Rattle.picture.specs.declared.Area.the-variants.{Heap, Transient}
 
 -- $FFFFFFFF: nobody
 abbrev pub nobody : ℕ
-nobody = 4294967295
+nobody = 0xFFFF_FFFF
 
 -- longword 0 holds N, 1,024 to 16,384
 abbrev pub size-word : ℕ

@@ -1,5 +1,5 @@
 -- Laws of a session line's meaning, one for each way that the reader goes. Assumes nothing.
-use mathlib.Core.Path.{_≡_, refl, sym, subst}
+use mathlib.Core.Path.{_≡_, refl, sym, ap, subst, _∙_}
 use mathlib.Core.Bool.{Bool, true, false}
 use mathlib.Core.Logic.{_≢_}
 use mathlib.Core.List.{List, []}
@@ -87,78 +87,83 @@ module _ (s : List ℕ) where
   unfolding frame
   fair-called z l e d = rw (ne-eqb (length s) 0 z, le-ltb 512 (length s) l, ne-eqb (length s % 2) 1 e, d)
 
--- a frame's name has at most 223 bytes, and a trap's registers are eight
+-- the registers of a trap are eight, and its name has at most 223 bytes
+abbrev Sized : Frame → Type 0
+Sized bad = Unit {0}
+Sized picks = Unit {0}
+Sized ticks = Unit {0}
+Sized (traps n registers name) = (length registers ≡ 8) × (length name ≤ 223)
+
 record Fits (f : Frame) : Type 0 where
-  pub most : length (name-of f) ≤ 223
-  pub eight : (n k : ℕ) → kind-of f ≡ Trap n k → length (registers-of f) ≡ 8
+  pub sized : Sized f
 
 fits-pick : (b : Bool) {f g : Frame} → Fits f → Fits g → Fits (pick b f g)
 fits-pick true h k = h
 fits-pick false h k = k
 
-fits-bad : Fits bad
-fits-bad = record { most = omega arith; eight = λ n k e. absurd (let z : _≡_ {A = ℕ} 0 1 = cc in omega arith) }
-
-fits-picks : Fits picks
-fits-picks = record { most = omega arith; eight = λ n k e. absurd (let z : _≡_ {A = ℕ} 0 1 = cc in omega arith) }
-
-fits-ticks : Fits ticks
-fits-ticks = record { most = omega arith; eight = λ n k e. absurd (let z : _≡_ {A = ℕ} 0 1 = cc in omega arith) }
-
-fits-trap : (m : ℕ) (s name : List ℕ) → length name ≤ 223 → Fits (traps m (numbers s 2 8 8) name)
-fits-trap m s name l = record { most = l; eight = λ n k e. length-numbers s 2 8 8 }
-
 fits-frame : (s : List ℕ) → Fits (frame s)
 unfolding frame called alone trapped
-fits-frame s = fits-pick (eqb (length s) 0) {f = bad} fits-bad (go (ltb 512 (length s)) refl)
+fits-frame s = fits-pick (eqb (length s) 0) {f = bad} (record { sized = tt }) (go (ltb 512 (length s)) refl)
   where
     n : ℕ
     n = number s 0 2
 
     go : (b : Bool) → ltb 512 (length s) ≡ b → Fits (pick b bad (pick (eqb (length s % 2) 1) bad (pick (digits s 0 (length s)) (called n s) bad)))
-    go true e = fits-bad
+    go true e = record { sized = tt }
     go false e =
         let few : length (numbers s 66 2 ((length s - 66) / 2)) ≤ 223 = rw (length-numbers s 66 2 ((length s - 66) / 2)) (omega (arith, ltb-false 512 (length s) e)) in
-        fits-pick (eqb (length s % 2) 1) fits-bad
+        let named : Fits (traps n (numbers s 2 8 8) (numbers s 66 2 ((length s - 66) / 2))) = record { sized = (length-numbers s 2 8 8, few) } in
+        let whole : Fits (traps n (numbers s 2 8 8) []) = record { sized = (length-numbers s 2 8 8, omega arith) } in
+        let lone : Fits bad = record { sized = tt } in
+        let picked : Fits picks = record { sized = tt } in
+        let ticked : Fits ticks = record { sized = tt } in
+        fits-pick (eqb (length s % 2) 1) lone
         (fits-pick (digits s 0 (length s))
-        (fits-pick (eqb n 240) (fits-pick (eqb (length s) 2) fits-picks fits-bad)
-        (fits-pick (eqb n 241) (fits-pick (eqb (length s) 2) fits-ticks fits-bad)
-        (fits-pick (ltb (length s) 66) fits-bad (fits-pick (eqb n 2) (fits-trap n s _ few) (fits-pick (eqb (length s) 66) (fits-trap n s [] (omega arith)) fits-bad)))))
-        fits-bad)
+        (fits-pick (eqb n 240) (fits-pick (eqb (length s) 2) picked lone)
+        (fits-pick (eqb n 241) (fits-pick (eqb (length s) 2) ticked lone)
+        (fits-pick (ltb (length s) 66) lone (fits-pick (eqb n 2) named (fits-pick (eqb (length s) 66) whole lone)))))
+        lone)
 
--- a line of this kind is a bad one, a pick or a tick
-pub kind-bad : (f : Frame) → kind-of f ≡ Bad → f ≡ bad
-kind-bad bad e = refl
-kind-bad picks e = absurd (let z : _≡_ {A = ℕ} 0 1 = cc in omega arith)
-kind-bad ticks e = absurd (let z : _≡_ {A = ℕ} 0 1 = cc in omega arith)
-kind-bad (traps m registers name) e = absurd (let z : _≡_ {A = ℕ} 0 1 = cc in omega arith)
+-- the frame of a line of this kind with these registers and this name
+abbrev pub framed : Line → List ℕ → List ℕ → Frame
+framed Bad registers name = bad
+framed Pick registers name = picks
+framed Tick registers name = ticks
+framed (Trap n k) registers name = traps n registers name
 
-pub kind-pick : (f : Frame) → kind-of f ≡ Pick → f ≡ picks
-kind-pick bad e = absurd (let z : _≡_ {A = ℕ} 0 1 = cc in omega arith)
-kind-pick picks e = refl
-kind-pick ticks e = absurd (let z : _≡_ {A = ℕ} 0 1 = cc in omega arith)
-kind-pick (traps m registers name) e = absurd (let z : _≡_ {A = ℕ} 0 1 = cc in omega arith)
+-- a frame is that of its kind
+as-framed : (f : Frame) → f ≡ framed (kind-of f) (registers-of f) (name-of f)
+as-framed bad = refl
+as-framed picks = refl
+as-framed ticks = refl
+as-framed (traps n registers name) = refl
 
-pub kind-tick : (f : Frame) → kind-of f ≡ Tick → f ≡ ticks
-kind-tick bad e = absurd (let z : _≡_ {A = ℕ} 0 1 = cc in omega arith)
-kind-tick picks e = absurd (let z : _≡_ {A = ℕ} 0 1 = cc in omega arith)
-kind-tick ticks e = refl
-kind-tick (traps m registers name) e = absurd (let z : _≡_ {A = ℕ} 0 1 = cc in omega arith)
+pub kind-says : (f : Frame) (r : Line) → kind-of f ≡ r → f ≡ framed r (registers-of f) (name-of f)
+kind-says f r e = as-framed f ∙ ap (λ (x : Line). framed x (registers-of f) (name-of f)) e
 
--- a frame is the trap n with these registers and a name of k bytes
+-- how many bytes of name a kind tells
+abbrev told-bytes : Line → ℕ
+told-bytes Bad = 0
+told-bytes Pick = 0
+told-bytes Tick = 0
+told-bytes (Trap n k) = k
+
+names-bytes : (f : Frame) → told-bytes (kind-of f) ≡ length (name-of f)
+names-bytes bad = refl
+names-bytes picks = refl
+names-bytes ticks = refl
+names-bytes (traps n registers name) = refl
+
+-- a frame is the trap n with eight registers and a name of k bytes
 pub record Trapped (f : Frame) (n k : ℕ) : Type 0 where
   pub is : f ≡ traps n (registers-of f) (name-of f)
   pub eight : length (registers-of f) ≡ 8
   pub counts : length (name-of f) ≡ k
   pub short : k ≤ 223
 
-kind-trap : (f : Frame) (n k : ℕ) → kind-of f ≡ Trap n k → Fits f → Trapped f n k
-kind-trap bad n k e h = absurd (let z : _≡_ {A = ℕ} 0 1 = cc in omega arith)
-kind-trap picks n k e h = absurd (let z : _≡_ {A = ℕ} 0 1 = cc in omega arith)
-kind-trap ticks n k e h = absurd (let z : _≡_ {A = ℕ} 0 1 = cc in omega arith)
-kind-trap (traps m registers name) n k e h =
-    let c : length name ≡ k = cc in
-    record { is = cc; eight = h .eight n k e; counts = c; short = rw c at (h .most) }
-
 pub trap-read : (s : List ℕ) (n k : ℕ) → kind-of (frame s) ≡ Trap n k → Trapped (frame s) n k
-trap-read s n k e = kind-trap (frame s) n k e (fits-frame s)
+trap-read s n k e =
+    let i = kind-says (frame s) (Trap n k) e in
+    let c = sym (names-bytes (frame s)) ∙ ap told-bytes e in
+    let z : (length (registers-of (frame s)) ≡ 8) × (length (name-of (frame s)) ≤ 223) = subst Sized i (fits-frame s .sized) in
+    record { is = i; eight = z .0; counts = c; short = rw c at (z .1) }

@@ -1,38 +1,51 @@
 -- Replies as they stand in the registers' room. Assumes nothing.
 use Prim.Native.Nat.{ℕ, _+_, _≤_, min}
 use mathlib.Core.Path.{_≡_, refl, sym, ap, subst, _∙_}
-use mathlib.Core.List.{List, []}
+use mathlib.Core.List.{List, [], _++_}
 use native.Mathlib.Omega.{arith}
+use native.Mathlib.Nat.{zero-add}
 use lib.IntN.{ℤ}
-use lib.ListN.{length, take, length-take}
-use lib.Seq.{sets, sets-eq, length-sets, take-all, take-append-seam}
+use lib.ListN.{length, take, drop, length-take, drop-of-length-le}
+use lib.Seq.{sets, sets-eq, length-sets, take-all, take-append-seam, drop-append-seam}
 use Rattle.calls.specs.Outcome.{Meets}
 use Rattle.manager.specs.Door.{called}
 use Rattle.program_lines.specs.Frames.{Frame, traps, registers-of, name-of}
 use Rattle.program_lines.proofs.Meaning.{Trapped}
 use Rattle.program_session.specs.Reply.{Reply, reply, Replied}
 
--- longwords or bytes put at the start of a room are the first of it
+-- longwords or bytes put at the start of a room are the first of it, and behind them it is as it was
+in-room : (a v : List ℕ) → length v ≤ length a → sets a 0 v ≡ v ++ drop (length v) a
+in-room a v l = sets-eq v a 0 (omega arith) ∙ ap (λ (k : ℕ). v ++ drop k a) (zero-add (length v))
+
 pub first-of : (a v : List ℕ) → length v ≤ length a → take (length v) (sets a 0 v) ≡ v
-first-of a v l = ap (take (length v)) (sets-eq v a 0 (omega arith)) ∙ take-append-seam v _
+first-of a v l = ap (take (length v)) (in-room a v l) ∙ take-append-seam v (drop (length v) a)
+
+pub rest-of : (a v : List ℕ) → length v ≤ length a → drop (length v) (sets a 0 v) ≡ drop (length v) a
+rest-of a v l = ap (drop (length v)) (in-room a v l) ∙ drop-append-seam v (drop (length v) a)
 
 -- what fills its room is the room
 pub all-of : (a v : List ℕ) → length v ≡ length a → sets a 0 v ≡ v
 all-of a v e = sym (take-all (length v) (sets a 0 v) (rw (length-sets a 0 v) (omega arith))) ∙ first-of a v (omega arith)
 
 -- a reply put at the start of a room is given
-pub put-there : (y : Reply) (a : List ℕ) → length (y .longwords) ≤ length a → Replied y (length (y .longwords)) (y .picture) (sets a 0 (y .longwords))
-put-there y a l = record { counts = refl; leaves = refl; gives = first-of a (y .longwords) l }
+pub put-there : (y : Reply) (a : List ℕ) → length (y .longwords) ≤ length a → Replied y (length (y .longwords)) (y .picture) a (sets a 0 (y .longwords))
+put-there y a l = record { counts = refl; leaves = refl; gives = first-of a (y .longwords) l; keeps = rest-of a (y .longwords) l }
 
 -- a reply has no more longwords than its room
-pub within : (y : Reply) (r : ℕ) (q d : List ℕ) → Replied y r q d → r ≤ length d
-within y r q d h =
+pub within : (y : Reply) (r : ℕ) (q a d : List ℕ) → Replied y r q a d → r ≤ length d
+within y r q a d h =
     let e : min r (length d) ≡ r = sym (length-take r d) ∙ ap length (h .gives) ∙ sym (h .counts) in
     omega arith
 
+-- a line without registers leaves its room, and its reply is that of its kind
+pub lone-replied : (f g : Frame) (r : ℕ) (p q a b d : List ℕ) → f ≡ g → registers-of g ≡ [] → b ≡ sets a 0 (registers-of f) → Replied (reply g p) r q b d → Replied (reply f p) r q a d
+lone-replied f g r p q a b d e n x h =
+    let z : b ≡ a = x ∙ ap (sets a 0) (ap registers-of e ∙ n) in
+    subst (λ (y : Frame). Replied (reply y p) r q a d) (sym e) (subst (λ (w : List ℕ). Replied (reply g p) r q w d) z h)
+
 -- what a trap answers on the registers and the name of a line is the line's reply
 pub trap-replied : (f : Frame) (n k : ℕ) (p a b q d : List ℕ) (r : ℤ) → Trapped f n k → 8 ≡ length a → 223 ≡ length b
-    → Meets (called n p (sets a 0 (registers-of f)) (take k (sets b 0 (name-of f)))) r q d → length d ≡ 8 → Replied (reply f p) 8 q d
+    → Meets (called n p (sets a 0 (registers-of f)) (take k (sets b 0 (name-of f)))) r q d → length d ≡ 8 → Replied (reply f p) 8 q a d
 trap-replied f n k p a b q d r t x y m l =
     let s = t .short in
     let e = t .eight in
@@ -40,5 +53,5 @@ trap-replied f n k p a b q d r t x y m l =
     let z = t .counts in
     let w : take k (sets b 0 (name-of f)) ≡ name-of f = ap (λ (i : ℕ). take i (sets b 0 (name-of f))) (sym z) ∙ first-of b (name-of f) (omega arith) in
     let o : Meets (called n p (registers-of f) (name-of f)) r q d = rw (g, w) at m in
-    subst (λ (h : Frame). Replied (reply h p) 8 q d) (sym (t .is))
-    (record { counts = sym l ∙ ap length (o .gives); leaves = o .leaves; gives = take-all 8 d (omega arith) ∙ o .gives })
+    subst (λ (h : Frame). Replied (reply h p) 8 q a d) (sym (t .is))
+    (record { counts = sym l ∙ ap length (o .gives); leaves = o .leaves; gives = take-all 8 d (omega arith) ∙ o .gives; keeps = drop-of-length-le d {i = 8} (omega arith) ∙ sym (drop-of-length-le a {i = 8} (omega arith)) })

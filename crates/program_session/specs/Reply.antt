@@ -2,7 +2,7 @@
 use Prim.Native.Nat.{ℕ}
 use mathlib.Core.Path.{_≡_}
 use mathlib.Core.List.{List, [], _∷_}
-use lib.ListN.{length, take}
+use lib.ListN.{length, take, drop}
 use Rattle.words.specs.Signed.{bits}
 use Rattle.picture.specs.Keys.{bad-parameter}
 use Rattle.program_lines.specs.Frames.{Frame, bad, picks, ticks, traps}
@@ -20,8 +20,9 @@ reply picks p = record { longwords = pick-answer p .number ∷ bits (pick-answer
 reply ticks p = record { longwords = bits (tick-key p) ∷ []; picture = ticking p }
 reply (traps n registers name) p = record { longwords = called n p registers name .registers; picture = called n p registers name .picture }
 
--- a reply is given: q is its picture, and its longwords are the first r of d
-pub record Replied (y : Reply) (r : ℕ) (q d : List ℕ) : Type 0 where
+-- a reply is given: q is its picture, and its r longwords stand first in d, which was a; behind them it is as it was
+pub record Replied (y : Reply) (r : ℕ) (q a d : List ℕ) : Type 0 where
   pub counts : r ≡ length (y .longwords)
   pub leaves : q ≡ y .picture
   pub gives : take r d ≡ y .longwords
+  pub keeps : drop r d ≡ drop r a

@@ -1,14 +1,16 @@
 use crate::room;
 use program_lines::Line;
 ghost use mathlib.Core.Path.{_≡_};
+ghost use mathlib.Core.List.{List};
+ghost use Prim.Native.Nat.{ℕ};
 ghost use lib.ListN.{length};
 ghost use Rattle.program_lines.specs.Frames.{bad, picks, ticks, frame};
 ghost use Rattle.program_session.specs.Reply.{reply, Replied};
 
-// A bad line gives its key alone.
-fn refuse(p: &[u32], registers: &mut [u32]) -> usize
+// A bad line gives its key alone, whatever the picture.
+fn refuse(registers: &mut [u32]) -> usize
     requires { ⌜ 8 ≡ length (now registers) ⌝ }
-    ensures { λ r. ⌜ Replied (reply bad (now (p .entry))) r (now (p .entry)) (now (registers .exit)) ⌝ }
+    ensures { λ r. ⌜ ((q : List ℕ) → Replied (reply bad q) r q (now (registers .entry)) (now (registers .exit))) ⌝ }
 {
     words::put(registers, 0, words::bits_of(picture::BAD_PARAMETER));
     1
@@ -17,7 +19,7 @@ fn refuse(p: &[u32], registers: &mut [u32]) -> usize
 // A pick gives its number and its key.
 fn pick(p: &mut [u32], registers: &mut [u32]) -> usize
     requires { ⌜ 8 ≡ length (now registers) ⌝ }
-    ensures { λ r. ⌜ Replied (reply picks (now (p .entry))) r (now (p .exit)) (now (registers .exit)) ⌝ }
+    ensures { λ r. ⌜ Replied (reply picks (now (p .entry))) r (now (p .exit)) (now (registers .entry)) (now (registers .exit)) ⌝ }
 {
     let picked = manager::pick(p);
     words::put(registers, 0, picked.number);
@@ -28,7 +30,7 @@ fn pick(p: &mut [u32], registers: &mut [u32]) -> usize
 // A tick gives its key.
 fn tick(p: &mut [u32], registers: &mut [u32]) -> usize
     requires { ⌜ 8 ≡ length (now registers) ⌝ }
-    ensures { λ r. ⌜ Replied (reply ticks (now (p .entry))) r (now (p .exit)) (now (registers .exit)) ⌝ }
+    ensures { λ r. ⌜ Replied (reply ticks (now (p .entry))) r (now (p .exit)) (now (registers .entry)) (now (registers .exit)) ⌝ }
 {
     let key = manager::tick(p);
     words::put(registers, 0, words::bits_of(key));
@@ -38,11 +40,11 @@ fn tick(p: &mut [u32], registers: &mut [u32]) -> usize
 // Does what a line asks for. Its reply stands in the registers' room, and the answer is how many longwords it has.
 pub fn answer(p: &mut [u32], line: &[u8], registers: &mut [u32]) -> usize
     requires { ⌜ 8 ≡ length (now registers) ⌝ }
-    ensures { λ r. ⌜ Replied (reply (frame (now (line .entry))) (now (p .entry))) r (now (p .exit)) (now (registers .exit)) ⌝ }
+    ensures { λ r. ⌜ Replied (reply (frame (now (line .entry))) (now (p .entry))) r (now (p .exit)) (now (registers .entry)) (now (registers .exit)) ⌝ }
 {
     let mut name = room::name_room();
     match program_lines::read_line(line, registers, &mut name) {
-        Line::Bad => refuse(p, registers),
+        Line::Bad => refuse(registers),
         Line::Pick => pick(p, registers),
         Line::Tick => tick(p, registers),
         Line::Trap(trap, count) => {

@@ -1,13 +1,13 @@
 -- `program_session::answering::answer` meets its contract: a line's kind says its frame, and its registers and name are those read. Assumes nothing.
-use mathlib.Core.Path.{_≡_, sym, subst, _∙_}
+use mathlib.Core.Path.{refl, sym, _∙_}
 use native.Mathlib.Omega.{arith}
 use Prim.Native.Nat.{_≤_}
 use lib.ListN.{length}
 use lib.Seq.{length-take-le}
-use Rattle.program_lines.specs.Frames.{Frame, frame}
-use Rattle.program_lines.proofs.Meaning.{Trapped, kind-bad, kind-pick, kind-tick, trap-read}
-use Rattle.program_session.specs.Reply.{reply, Replied}
-use Rattle.program_session.proofs.Replies.{trap-replied}
+use Rattle.program_lines.specs.declared.Line.the-variants.{Bad, Pick, Tick}
+use Rattle.program_lines.specs.Frames.{bad, picks, ticks, frame}
+use Rattle.program_lines.proofs.Meaning.{Trapped, kind-says, trap-read}
+use Rattle.program_session.proofs.Replies.{lone-replied, trap-replied}
 use borrow.Author.Needs.{needs}
 use Rattle.program_session.proofs.answering.answer.Statement.{statement}
 use Rattle.program_session.proofs.answering.answer.Tie as tie
@@ -63,46 +63,44 @@ call-requires c κs = search needs
 same-length : tie.Need-same-length
 same-length c = search needs
 
+returns : tie.Need-returns
+returns c =
+    let s = c .before .before .before .before .before .before .before .before .before .before .before .before .before .before .before .before in
+    let t = c .before .before .refuse in
+    let r = c .before .before .before .before .before .before .before .before .before .read-line .ensures in
+    lone-replied (frame (s .args .line .now)) bad (t .result) (s .args .p .now) _ (s .args .registers .now) _ _ (kind-says (frame (s .args .line .now)) Bad (sym (r .kind) ∙ c .before .before .before .before .enum-told .given .1)) refl (r .registers) (t .ensures (s .args .p .now))
+
 same-length-2 : tie.Need-same-length-2
 same-length-2 c = search needs
 
-returns : tie.Need-returns
-returns c =
-    let s = c .before .before .before .before .before .before .before .before .before .before .before .before .before .before .before .before .before in
-    let k = c .before .before .before .before .before .before .before .before .before .before .read-line .ensures .kind in
-    subst (λ (f : Frame). Replied (reply f (s .args .p .now)) (c .before .before .refuse .result) (s .args .p .now) (c .before .before .refuse .last .1 .0)) (sym (kind-bad (frame (s .args .line .now)) (sym k ∙ c .before .before .before .before .before .enum-told .given .1))) (c .before .before .refuse .ensures)
-
 same-length-3 : tie.Need-same-length-3
 same-length-3 c = search needs
-
-same-length-4 : tie.Need-same-length-4
-same-length-4 c = search needs
 
 returns-2 : tie.Need-returns-2
 returns-2 c =
     let s = c .before .before .before .before .before .before .before .before .before .before .before .before .before .before .before .before .before .before .before in
     let t = c .before .before .before .before .pick in
-    let k = c .before .before .before .before .before .before .before .before .before .before .before .before .read-line .ensures .kind in
-    subst (λ (f : Frame). Replied (reply f (s .args .p .now)) (t .result) (t .last .0) (t .last .1 .0)) (sym (kind-pick (frame (s .args .line .now)) (sym k ∙ c .before .before .before .before .before .before .before .enum-told2 .given .1))) (t .ensures)
+    let r = c .before .before .before .before .before .before .before .before .before .before .before .before .read-line .ensures in
+    lone-replied (frame (s .args .line .now)) picks (t .result) (s .args .p .now) _ (s .args .registers .now) _ _ (kind-says (frame (s .args .line .now)) Pick (sym (r .kind) ∙ c .before .before .before .before .before .before .before .enum-told2 .given .1)) refl (r .registers) (t .ensures)
+
+same-length-4 : tie.Need-same-length-4
+same-length-4 c = search needs
 
 same-length-5 : tie.Need-same-length-5
 same-length-5 c = search needs
-
-same-length-6 : tie.Need-same-length-6
-same-length-6 c = search needs
 
 returns-3 : tie.Need-returns-3
 returns-3 c =
     let s = c .before .before .before .before .before .before .before .before .before .before .before .before .before .before .before .before .before .before .before in
     let t = c .before .before .before .before .tick in
-    let k = c .before .before .before .before .before .before .before .before .before .before .before .before .read-line .ensures .kind in
-    subst (λ (f : Frame). Replied (reply f (s .args .p .now)) (t .result) (t .last .0) (t .last .1 .0)) (sym (kind-tick (frame (s .args .line .now)) (sym k ∙ c .before .before .before .before .before .before .before .enum-told3 .given .1))) (t .ensures)
+    let r = c .before .before .before .before .before .before .before .before .before .before .before .before .read-line .ensures in
+    lone-replied (frame (s .args .line .now)) ticks (t .result) (s .args .p .now) _ (s .args .registers .now) _ _ (kind-says (frame (s .args .line .now)) Tick (sym (r .kind) ∙ c .before .before .before .before .before .before .before .enum-told3 .given .1)) refl (r .registers) (t .ensures)
+
+same-length-6 : tie.Need-same-length-6
+same-length-6 c = search needs
 
 same-length-7 : tie.Need-same-length-7
 same-length-7 c = search needs
-
-same-length-8 : tie.Need-same-length-8
-same-length-8 c = search needs
 
 returns-4 : tie.Need-returns-4
 returns-4 c =
@@ -130,14 +128,13 @@ answer-spec =
     slice-aggregate-call
     call-requires
     same-length
-    same-length-2
     returns
+    same-length-2
     same-length-3
-    same-length-4
     returns-2
+    same-length-4
     same-length-5
-    same-length-6
     returns-3
+    same-length-6
     same-length-7
-    same-length-8
     returns-4)

@@ -17,9 +17,9 @@ same-length : tie.Need-same-length
 same-length c = search needs
 
 returns : tie.Need-returns
-returns c =
-    let s = c .before .before .before .before .before .before .before in
-    rw (c .before .before .put .ensures, c .before .before .before .bits-of .ensures) (put-there (reply bad (s .args .p .now)) (s .args .registers .now) (omega (arith, s .pre)))
+returns c q =
+    let s = c .before .before .before .before .before .before in
+    rw (c .before .before .put .ensures, c .before .before .before .bits-of .ensures) (put-there (reply bad q) (s .args .registers .now) (omega (arith, s .pre)))
 
 pub refuse-spec : {M : Type 1} → statement M
 refuse-spec = tie.close (tie.spec bits-of-requires put-requires same-length returns)

@@ -19,10 +19,10 @@ with-room-requires : tie.Need-with-room-requires
 with-room-requires c κs = search needs
 
 array-share-prefix-registers : tie.Need-array-share-prefix-registers
-array-share-prefix-registers c = within _ _ _ _ (c .before .before .before .before .before .before .answer .ensures)
+array-share-prefix-registers c = within _ _ _ _ _ (c .before .before .before .before .before .before .answer .ensures)
 
 slice-aggregate-write-answer : tie.Need-slice-aggregate-write-answer
-slice-aggregate-write-answer c = sym (length-take-le _ _ (within _ _ _ _ (c .before .before .before .before .before .before .before .answer .ensures)))
+slice-aggregate-write-answer c = sym (length-take-le _ _ (within _ _ _ _ _ (c .before .before .before .before .before .before .before .answer .ensures)))
 
 write-answer-requires : tie.Need-write-answer-requires
 write-answer-requires c κs = search needs
