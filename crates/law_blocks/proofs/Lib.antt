@@ -8,5 +8,4 @@ pub mod Placing
 pub mod Freeing
 pub mod Unchanged
 pub mod Intact
-pub mod NoRoom
 pub mod Cut

@@ -1,3 +1,7 @@
 -- The causes of the keys, proved.
+pub mod Matching
+pub mod Tests
+pub mod Calls
 pub mod Causes
-pub mod Names
+pub mod Memory
+pub mod Others

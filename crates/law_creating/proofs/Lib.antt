@@ -1,6 +1,5 @@
 -- What creating a job keeps and refuses.
 pub mod Ways
-pub mod Room
 pub mod Made
 pub mod Kept
 pub mod Others

@@ -1,4 +1,4 @@
--- What the calls on memory say of room: -3 exactly when the heap has none, and $6 the longest that the transient area has.
+-- What $6 says of room: the longest that the transient area has.
 use Prim.Native.Nat.{ℕ, _-_, _≤_, _<_}
 use mathlib.Core.Path.{_≡_, refl, ap}
 use mathlib.Core.Bool.{Bool, true}
@@ -10,7 +10,7 @@ use lib.Seq.{getD-set-same}
 use Rattle.words.specs.Each.{In}
 use Rattle.words.proofs.Words.{length-clear}
 use Rattle.picture.specs.Layout.{from, upto}
-use Rattle.picture.specs.declared.Area.the-variants.{Heap, Transient}
+use Rattle.picture.specs.declared.Area.the-variants.{Transient}
 use Rattle.blocks.specs.Header.{size, free}
 use Rattle.blocks.specs.Walk.{blocks}
 use Rattle.placing.specs.Place.{longest}
@@ -19,17 +19,7 @@ use Rattle.rooms.specs.Room.{block-length}
 use Rattle.rooms.proofs.Room.{Without}
 use Rattle.calls.specs.Call.{outcome}
 use Rattle.calls.specs.Registers.{D1, cleared}
-use Rattle.calls.proofs.Found.{job-check-gives-no-other}
-use Rattle.calls.proofs.Call.{but-last}
-use Rattle.law_blocks.proofs.NoRoom.{not-memory, NoRoomExactly, room-is-the-last-check}
-use Rattle.memory.specs.Memory.{longest-room, taken-length, take}
-
--- $18 answers -3 exactly when its length and its owner are good and every free block of the heap is shorter than the block asked for
-pub take-is-out-of-memory-exactly-when-the-heap-is-full : (p d : List ℕ)
-    → NoRoomExactly (outcome take p d) (but-last (take p d .checks)) p Heap (taken-length d)
-unfolding take
-take-is-out-of-memory-exactly-when-the-heap-is-full p d =
-    room-is-the-last-check take p d Heap (taken-length d) refl (search (not-memory, job-check-gives-no-other) depth 12)
+use Rattle.memory.specs.Memory.{longest-room}
 
 -- what $6 answers is the room of a free block, and no free block has more
 module _ (p d : List ℕ) (eight : 1 < length d) where

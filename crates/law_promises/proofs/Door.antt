@@ -9,7 +9,7 @@ use borrow.Author.Tests.{eqb-true, eqb-false, eq-eqb, ne-eqb}
 use Rattle.picture.specs.Layout.{nobody}
 use Rattle.picture.specs.Keys.{invalid-job, bad-parameter, not-sound}
 use Rattle.sound.specs.Sound.{sound}
-use Rattle.calls.specs.Outcome.{Outcome, refuse, Meets}
+use Rattle.calls.specs.Outcome.{Outcome, refuse}
 use Rattle.calls.specs.Call.{outcome}
 use Rattle.calls.specs.Registers.{caller}
 use Rattle.calls.proofs.Call.{refusal-changes-nothing}
@@ -21,7 +21,7 @@ use Rattle.turns.specs.Tick.{ticked}
 use Rattle.law_turns.proofs.Pick.{pick-keeps-sound}
 use Rattle.law_turns.proofs.Tick.{tick-keeps-sound}
 use Rattle.manager.proofs.Door.{checked-unsound, called-otherwise, called-with-eight}
-use Rattle.law_promises.specs.Door.{OnlyKeyWritten, RefusalWritesOnlyD0, OtherRegistersRefused, Unsound, UnsoundIsRefused, CallKeepsSound, PickKeepsSound, TickKeepsSound, Same, WhateverMeetsIsEqual}
+use Rattle.law_promises.specs.Door.{OnlyKeyWritten, RefusalWritesOnlyD0, OtherRegistersRefused, Unsound, UnsoundIsRefused, CallKeepsSound, PickKeepsSound, TickKeepsSound}
 use Rattle.law_promises.proofs.Calls.{EachCall, each-call}
 use Rattle.law_asking.proofs.Kept.{ask-keeps-sound}
 use Rattle.law_creating.proofs.Kept.{create-keeps-sound}
@@ -97,7 +97,3 @@ pick-keeps p s = rw s (pick-keeps-sound p s)
 pub tick-keeps : TickKeepsSound
 unfolding ticking
 tick-keeps p s = rw s (tick-keeps-sound p s)
-
--- whatever satisfies a call's contract is equal
-pub whatever-meets-is-equal : WhateverMeetsIsEqual
-whatever-meets-is-equal trap p d name r s q q' e e' m n = record { keys = m .answers ∙ sym (n .answers); pictures = m .leaves ∙ sym (n .leaves); registers = m .gives ∙ sym (n .gives) }

@@ -27,7 +27,7 @@ use Rattle.manager.specs.Door.{checked, with-key, called}
 use Rattle.manager.specs.Turn.{pick-picture, ticking}
 use Rattle.law_turns.proofs.Pick.{pick-ages}
 use Rattle.law_turns.proofs.Tick.{tick-ages}
-use Rattle.law_promises.specs.History.{Event, trap, pick, tick, after, run, AlwaysSound, DeadStaysDead, LastTagNeverFalls, EndingTakesNoMore}
+use Rattle.law_promises.specs.History.{Event, trap, pick, tick, after, run, AlwaysSound, DeadStaysDead, DeadSinceFresh, LastTagNeverFalls, EndingTakesNoMore}
 use Rattle.law_ending.proofs.Promise.{ending-leaves-others, ending-takes-the-tree}
 use Rattle.law_promises.proofs.Calls.{EachCall, each-call}
 use Rattle.law_promises.proofs.Door.{checked-by, call-keeps-sound, pick-keeps, tick-keeps}
@@ -117,16 +117,15 @@ given p s t n l =
     entries Channels = view p s .channels .entries
 
 pub dead-stays-dead : DeadStaysDead
-dead-stays-dead n h g t number first then later l d =
-    let f = fresh n h in
-    let a = run first f in
-    let s : sound a ≡ true = always-sound n h g first in
-    let b = run then a in
-    let u : sound b ≡ true = run-keeps-sound then a s in
-    let x = given a s t number l in
-    let y = run-ages then a s t .rises in
-    let w : live b t number ≡ false = rw (run-then first then f) at d in
-    rw (run-then first (then ++ later) f, run-then then later a) (stays-dead b (run later b) t number (run-ages later b u t) (omega arith) w)
+dead-stays-dead p s t number then later l d =
+    let b = run then p in
+    let u : sound b ≡ true = run-keeps-sound then p s in
+    let x = given p s t number l in
+    let y = run-ages then p s t .rises in
+    rw (run-then then later p) (stays-dead b (run later b) t number (run-ages later b u t) (omega arith) d)
+
+pub dead-since-fresh : DeadSinceFresh
+dead-since-fresh n h g t number first then later = dead-stays-dead (run first (fresh n h)) (always-sound n h g first) t number then later
 
 pub ending-takes-no-more : EndingTakesNoMore
 ending-takes-no-more n h g events t key u z =

@@ -1,6 +1,7 @@
 -- The promises, proved.
 pub mod Calls
 pub mod Door
+pub mod Equal
 pub mod History
 pub mod CallsQuiet
 pub mod TablesQuiet

@@ -4,13 +4,12 @@ use Prim.Native.Nat.{ℕ}
 use mathlib.Core.Path.{_≡_}
 use mathlib.Core.Bool.{true, false}
 use mathlib.Core.List.{List}
-use lib.IntN.{ℤ}
 use lib.ListN.{length}
 use Rattle.words.specs.Words.{put}
 use Rattle.words.specs.Signed.{bits}
 use Rattle.picture.specs.Keys.{done, bad-parameter, not-sound}
 use Rattle.sound.specs.Sound.{sound}
-use Rattle.calls.specs.Outcome.{Outcome, Meets, refuse}
+use Rattle.calls.specs.Outcome.{Outcome, refuse}
 use Rattle.manager.specs.Door.{called}
 use Rattle.manager.specs.Turn.{pick-picture, ticking}
 
@@ -43,12 +42,3 @@ PickKeepsSound = (p : List ℕ) → sound p ≡ true → sound (pick-picture p) 
 
 abbrev pub TickKeepsSound : Type 0
 TickKeepsSound = (p : List ℕ) → sound p ≡ true → sound (ticking p) ≡ true
-
--- whatever satisfies a call's contract is equal: two answers, two register files, two pictures
-pub record Same (r s : ℤ) (p q d e : List ℕ) : Type 0 where
-  pub keys : r ≡ s
-  pub pictures : p ≡ q
-  pub registers : d ≡ e
-
-abbrev pub WhateverMeetsIsEqual : Type 0
-WhateverMeetsIsEqual = (trap : ℕ) (p d name : List ℕ) (r s : ℤ) (q q' e e' : List ℕ) → Meets (called trap p d name) r q e → Meets (called trap p d name) s q' e' → Same r s q q' e e'

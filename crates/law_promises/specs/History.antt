@@ -38,12 +38,19 @@ run (e ∷ events) p = run events (after e p)
 abbrev pub AlwaysSound : Type 0
 AlwaysSound = (n h : ℕ) → fresh-good n n h ≡ true → (events : List Event) → sound (run events (fresh n h)) ≡ true
 
--- a number that was live and has died never names anything again
+-- a number that names something and has died never names anything again, from any sound picture
 abbrev pub DeadStaysDead : Type 0
-DeadStaysDead = (n h : ℕ) → fresh-good n n h ≡ true → (t : Table) (number : ℕ) (first then later : List Event)
+DeadStaysDead = (p : List ℕ) → sound p ≡ true → (t : Table) (number : ℕ) (then later : List Event)
+    → live p t number ≡ true
+    → live (run then p) t number ≡ false
+    → live (run (then ++ later) p) t number ≡ false
+
+-- so it is from one fresh picture to the next
+abbrev pub DeadSinceFresh : Type 0
+DeadSinceFresh = (n h : ℕ) → fresh-good n n h ≡ true → (t : Table) (number : ℕ) (first then later : List Event)
     → live (run first (fresh n h)) t number ≡ true
-    → live (run (first ++ then) (fresh n h)) t number ≡ false
-    → live (run (first ++ (then ++ later)) (fresh n h)) t number ≡ false
+    → live (run then (run first (fresh n h))) t number ≡ false
+    → live (run (then ++ later) (run first (fresh n h))) t number ≡ false
 
 -- tags rise: the last tag given never falls, from any sound picture
 abbrev pub LastTagNeverFalls : Type 0

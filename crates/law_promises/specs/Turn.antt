@@ -11,7 +11,7 @@ use Rattle.picture.specs.declared.Table.the-variants.{Jobs}
 use Rattle.sound.specs.Sound.{sound}
 use Rattle.calls.specs.Registers.{D1, meant}
 use Rattle.law_fairness.specs.Law.{InEvery}
-use Rattle.turns.specs.Pick.{picked-number}
+use Rattle.manager.specs.Turn.{pick-answer}
 use Rattle.law_picks.specs.Stretch.{Stands, pick-bound}
 use Rattle.law_promises.specs.History.{Event, trap, pick, tick, after}
 
@@ -37,7 +37,7 @@ pub data Stays (n j g : ℕ) : List ℕ → List Event → Type 0 where
 abbrev pub answers : List Event → List ℕ → List ℕ
 answers [] p = []
 answers (trap t d name ∷ events) p = answers events (after (trap t d name) p)
-answers (pick ∷ events) p = picked-number p ∷ answers events (after pick p)
+answers (pick ∷ events) p = pick-answer p .number ∷ answers events (after pick p)
 answers (tick ∷ events) p = answers events (after tick p)
 
 -- A TURN THAT CAN'T BE LOST
