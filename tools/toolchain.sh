@@ -29,6 +29,17 @@ need_cargo() {
     fi
 }
 
+# Python 3, for the look at the papers; Debian's package python3 is installed where there is none.
+need_python() {
+    command -v python3 >/dev/null && return
+    echo "python3 is missing: installing Debian's package python3." >&2
+    (apt-get update && apt-get install -y --no-install-recommends python3) >/dev/null 2>&1
+    command -v python3 >/dev/null || {
+        echo "python3 is needed for tools/papers: install it and try again." >&2
+        exit 2
+    }
+}
+
 # Runs a program of Rattle's: programs are for x86-64, and on Arm they run under the kit's emulator.
 run_program() {
     emulator=$machine_tools/bin/qemu-x86_64
