@@ -1,4 +1,4 @@
-# Finds the toolchains that the scripts use, and says plainly what is missing.
+# Finds the toolchains that the scripts use, and says plainly what is missing; and what the scripts share.
 
 # Rattle's command rt, and the folder of the kit that it belongs to.
 need_rattle() {
@@ -38,6 +38,11 @@ need_python() {
         echo "python3 is needed for tools/papers: install it and try again." >&2
         exit 2
     }
+}
+
+# How many lines a file has; a last one that no line feed ends counts too.
+lines_of() {
+    LC_ALL=C tr -c '\n' x <"$1" | grep -c ''
 }
 
 # Runs a program of Rattle's: programs are for x86-64, and on Arm they run under the kit's emulator.
