@@ -1,4 +1,4 @@
-# Finds the toolchains that the scripts use, and says plainly what is missing.
+# Finds the toolchains that the scripts use, and says plainly what is missing; and what the scripts share.
 
 # Rattle's command rt, and the folder of the kit that it belongs to.
 need_rattle() {
@@ -27,6 +27,22 @@ need_cargo() {
         echo "Rust $least or newer is needed with its cargo, and here is ${have:-none}: install it from https://rustup.rs, or on Debian 12 the package cargo-web, and try again." >&2
         exit 2
     fi
+}
+
+# Python 3, for the look at the papers; Debian's package python3 is installed where there is none.
+need_python() {
+    command -v python3 >/dev/null && return
+    echo "python3 is missing: installing Debian's package python3." >&2
+    (apt-get update && apt-get install -y --no-install-recommends python3) >/dev/null 2>&1
+    command -v python3 >/dev/null || {
+        echo "python3 is needed for tools/papers: install it and try again." >&2
+        exit 2
+    }
+}
+
+# How many lines a file has; a last one that no line feed ends counts too.
+lines_of() {
+    LC_ALL=C tr -c '\n' x <"$1" | grep -c ''
 }
 
 # Runs a program of Rattle's: programs are for x86-64, and on Arm they run under the kit's emulator.

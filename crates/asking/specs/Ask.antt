@@ -1,4 +1,4 @@
--- Trap 1 $2: "D2 live, D1 live and in the tree of D2. D1 the member with the next greater tag, or 0; D2 owner;
+-- Trap 1 $2 (rule 78): "D2 live, D1 live and in the tree of D2. D1 the member with the next greater tag, or 0; D2 owner;
 -- D3 $FF000000 if suspended, plus priority; A0 first byte of room, 0 for job 0; A1 0."
 use Prim.Native.Nat.{ℕ, _+_}
 use mathlib.Core.Bool.{cond}

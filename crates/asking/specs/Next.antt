@@ -1,4 +1,4 @@
--- "the member with the next greater tag, or 0": of the members with a greater tag the one with the smallest.
+-- rule 78: "the member with the next greater tag, or 0": of the members with a greater tag the one with the smallest.
 use Prim.Native.Nat.{ℕ, zero, suc}
 use mathlib.Core.Bool.{Bool, _&&_, _||_, cond}
 use mathlib.Core.List.{List}

@@ -1,4 +1,4 @@
--- Document 01, "Blocks: four header longwords, then room". The block at i starts at longword i.
+-- Document 01, "Blocks: four header longwords, then room" (rule 13). The block at i starts at longword i.
 use Prim.Native.Nat.{ℕ, _+_, _*_, _/_}
 use mathlib.Core.Bool.{Bool}
 use mathlib.Core.List.{List}
@@ -20,7 +20,7 @@ holder-field = 2
 abbrev pub start-field : ℕ
 start-field = 3
 
--- "A queue's room: length n .., index of the oldest byte .., count .., 0, then the bytes"
+-- rule 14: "A queue's room: length n .., index of the oldest byte .., count .., 0, then the bytes"
 abbrev pub queue-length-field : ℕ
 queue-length-field = 4
 
@@ -36,11 +36,11 @@ queue-zero-field = 7
 abbrev pub queue-bytes-field : ℕ
 queue-bytes-field = 8
 
--- whole length in bytes
+-- rule 13: whole length in bytes
 abbrev pub size : List ℕ → ℕ → ℕ
 size p i = word p i
 
--- kind 0 free, 1 plain, 2 queue, 3 job
+-- rule 13: kind 0 free, 1 plain, 2 queue, 3 job
 abbrev pub kind : List ℕ → ℕ → ℕ
 kind p i = word p (i + kind-field)
 
@@ -69,7 +69,7 @@ holder p i = word p (i + holder-field)
 abbrev pub start : List ℕ → ℕ → ℕ
 start p i = word p (i + start-field)
 
--- what a queue's room holds
+-- rule 14: what a queue's room holds
 abbrev pub queue-length : List ℕ → ℕ → ℕ
 queue-length p i = word p (i + queue-length-field)
 
@@ -104,6 +104,6 @@ with-queue-oldest p i v = put p (i + queue-oldest-field) v
 abbrev pub with-queue-count : List ℕ → ℕ → ℕ → List ℕ
 with-queue-count p i v = put p (i + queue-count-field) v
 
--- n bytes rounded up to 16
+-- rule 14: n bytes rounded up to 16
 abbrev pub rounded : ℕ → ℕ
 rounded n = (n + 15) / 16 * 16

@@ -1,4 +1,4 @@
--- The walk over the blocks of an area that ends at longword e.
+-- The walk over the blocks of an area that ends at longword e (rule 15).
 use Prim.Native.Nat.{ℕ, zero, suc, _+_, _-_, _/_, _%_}
 use mathlib.Core.Bool.{Bool, _&&_, cond}
 use mathlib.Core.List.{List, [], _∷_}

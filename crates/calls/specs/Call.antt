@@ -1,4 +1,4 @@
--- A guarded call: a list of checks, each a test with its key, in document 01's order, and an effect.
+-- A guarded call: a list of checks, each a test with its key, in document 01's order, and an effect (rule 64).
 use Prim.Native.Nat.{ℕ}
 use mathlib.Core.Path.{_≡_}
 use mathlib.Core.Bool.{Bool, true, false, cond}
@@ -22,7 +22,7 @@ pub record Guarded : Type 0 where
 abbrev pub Call : Type 0
 Call = List ℕ → List ℕ → Guarded
 
--- the refusal of the first check that fails, o where all pass
+-- rules 64 and 65: the refusal of the first check that fails, o where all pass
 abbrev pub settled : List Check → List ℕ → List ℕ → Outcome → Outcome
 settled [] p d o = o
 settled (c ∷ l) p d o = cond (c .0) (settled l p d o) (refuse (c .1) p d)
@@ -31,12 +31,12 @@ settled (c ∷ l) p d o = cond (c .0) (settled l p d o) (refuse (c .1) p d)
 unfoldable pub outcome : Call → List ℕ → List ℕ → Outcome
 outcome c p d = settled (c p d .checks) p d (succeed (c p d .picture) (c p d .registers))
 
--- the key of a list of checks: that of the first that fails, 0 where all pass
+-- rule 64: the key of a list of checks: that of the first that fails, 0 where all pass
 abbrev pub verdict : List Check → ℤ
 verdict [] = done
 verdict (c ∷ l) = cond (c .0) (verdict l) (c .1)
 
--- the exact condition for a key: the checks before pass, and the first that fails has that key; or all pass and the key is 0
+-- rule 62: the exact condition for a key: the checks before pass, and the first that fails has that key; or all pass and the key is 0
 abbrev pub Cause : ℤ → List Check → Type 0
 Cause k [] = k ≡ done
 Cause k (c ∷ l) = ((c .0 ≡ true) × Cause k l) ⊎ ((c .0 ≡ false) × (k ≡ c .1))

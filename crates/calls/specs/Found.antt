@@ -1,4 +1,4 @@
--- A number that is looked up: its check, "job named isn't live", -2, or "channel not live", -6, and the position that is found.
+-- A number that is looked up (rules 12 and 70): its check, "job named isn't live", -2, or "channel not live", -6, and the position that is found.
 -- A dead number is refused, and 0 stands for its position.
 use Prim.Native.Nat.{ℕ}
 use mathlib.Core.Bool.{true, false}
@@ -35,6 +35,6 @@ place-of-job p n = job-place (job-at p n)
 abbrev pub place-of-channel : List ℕ → ℕ → ℕ
 place-of-channel p n = channel-place (channel-at p n)
 
--- where the job that D1 means stands
+-- rule 67: where the job that D1 means stands
 abbrev pub job-position : List ℕ → List ℕ → ℕ
 job-position p d = place-of-job p (meant p (D1 d))

@@ -10,11 +10,11 @@ pub record Outcome : Type 0 where
   pub picture : List ℕ
   pub registers : List ℕ
 
--- "A refusal writes D0 only"
+-- rule 65: "A refusal writes D0 only"
 abbrev pub refuse : ℤ → List ℕ → List ℕ → Outcome
 refuse k p d = record { key = k; picture = p; registers = d }
 
--- "success sets D0 to 0"
+-- rule 66: "success sets D0 to 0"
 abbrev pub succeed : List ℕ → List ℕ → Outcome
 succeed p d = record { key = done; picture = p; registers = d }
 

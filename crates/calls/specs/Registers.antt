@@ -1,4 +1,4 @@
--- "Registers are lent as eight longwords, D0 to D3, A0 to A3."
+-- rule 63: "Registers are lent as eight longwords, D0 to D3, A0 to A3."
 use Prim.Native.Nat.{ℕ}
 use mathlib.Core.Bool.{cond}
 use mathlib.Core.List.{List}
@@ -37,7 +37,7 @@ with-A0 v d = put d 4 v
 abbrev pub with-A1 : ℕ → List ℕ → List ℕ
 with-A1 v d = put d 5 v
 
--- "D1 to A3 become 0"
+-- rule 79: "D1 to A3 become 0"
 abbrev pub cleared : List ℕ → List ℕ
 cleared d = clear 7 d 1
 
@@ -45,6 +45,6 @@ cleared d = clear 7 d 1
 abbrev pub caller : List ℕ → ℕ
 caller p = word p current-word
 
--- "a number whose low word has bit 15 set means the current job"
+-- rule 67: "a number whose low word has bit 15 set means the current job"
 unfoldable pub meant : List ℕ → ℕ → ℕ
 meant p n = cond (bit n 15) (caller p) n

@@ -4,6 +4,6 @@ use mathlib.Core.List.{List}
 use Rattle.words.specs.Words.{put}
 use Rattle.picture.specs.Layout.{nobody, current-word}
 
--- "leave nobody current"
+-- rule 74: "leave nobody current"
 abbrev pub with-nobody : List ℕ → List ℕ
 with-nobody p = put p current-word nobody

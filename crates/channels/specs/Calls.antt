@@ -1,4 +1,4 @@
--- Document 01: trap 2 $2, trap 3 $0, $1 and $5.
+-- Document 01: trap 2 $2, trap 3 $0, $1 and $5 (rules 92 to 96).
 use Prim.Native.Nat.{ℕ, _%_}
 use mathlib.Core.Bool.{not}
 use mathlib.Core.List.{List, [], _∷_}
@@ -14,7 +14,7 @@ use Rattle.channels.specs.Effects.{queue-of, closed, immediate}
 abbrev pub queue-named : List ℕ → List ℕ → ℕ
 queue-named p d = queue-of p (place-of-channel p (A0 d))
 
--- "Trap 2 $2: channel A0; its block is freed."
+-- rule 92: "Trap 2 $2: channel A0; its block is freed."
 unfoldable pub close-channel : Call
 close-channel p d = record {
   checks = channel-check (channel-at p (A0 d)) ∷ [];
@@ -22,14 +22,14 @@ close-channel p d = record {
   registers = d;
 }
 
--- "Trap 3: channel A0; D3's low word 0 (else -15)", and then the check of the queue
+-- rule 93: "Trap 3: channel A0; D3's low word 0 (else -15)", and then the check of the queue
 abbrev pub at-channel : List ℕ → List ℕ → Check → List Check
 at-channel p d c =
     channel-check (channel-at p (A0 d)) ∷
     (immediate d, bad-parameter) ∷
     c ∷ []
 
--- "$0 asks whether a byte waits"
+-- rule 94: "$0 asks whether a byte waits"
 unfoldable pub pending : Call
 pending p d = record {
   checks = at-channel p d (waits p (queue-named p d), not-complete);
@@ -37,7 +37,7 @@ pending p d = record {
   registers = d;
 }
 
--- "$1 takes the oldest into D1 (upper bits 0; .."
+-- rule 95: "$1 takes the oldest into D1 (upper bits 0; .."
 unfoldable pub fetch : Call
 fetch p d = record {
   checks = at-channel p d (waits p (queue-named p d), not-complete);
@@ -45,7 +45,7 @@ fetch p d = record {
   registers = with-D1 (oldest-byte p (queue-named p d)) d;
 }
 
--- "$5 writes D1's low byte behind the newest"
+-- rule 96: "$5 writes D1's low byte behind the newest"
 unfoldable pub send : Call
 send p d = record {
   checks = at-channel p d (not (full p (queue-named p d)), not-complete);

@@ -21,10 +21,10 @@ queue-of p k = base p Channels k / 4
 unfoldable pub forgotten : List ℕ → Table → ℕ → List ℕ
 forgotten p t k = with-members (clear (width t) p (slot t k)) t (without-bit (members p t) k)
 
--- the channel at position k is gone: "its block is freed"
+-- rule 92: the channel at position k is gone: "its block is freed"
 unfoldable pub closed : List ℕ → ℕ → List ℕ
 closed p k = forgotten (swept p (from p Heap) (upto p Heap) 0 (queue-of p k)) Channels k
 
--- "D3's low word 0"
+-- rule 93: "D3's low word 0"
 unfoldable pub immediate : List ℕ → Bool
 immediate d = eqb (low-word (D3 d)) 0

@@ -1,4 +1,4 @@
--- Document 01: the call $1.
+-- Document 01: the call $1 (rules 76 and 77).
 use Prim.Native.Nat.{ℕ, _+_}
 use mathlib.Core.Bool.{Bool, true, false, cond}
 use mathlib.Core.List.{List, [], _∷_}
@@ -17,11 +17,11 @@ use Rattle.entering.specs.Entry.{has-position, has-tag, next-tag, next-number, 
 use Rattle.creating.specs.declared.OwnerFound.{OwnerFound}
 use Rattle.creating.specs.declared.OwnerFound.the-variants.{Of, Dead}
 
--- "D1 negative as a long"
+-- rule 76: "D1 negative as a long"
 abbrev pub negative : ℕ → Bool
 negative n = leb 0x8000_0000 n
 
--- "no owner; otherwise D1 must be live (-2) and the new job is owned by the caller"
+-- rule 76: "no owner; otherwise D1 must be live (-2) and the new job is owned by the caller"
 unfoldable pub owner-found : List ℕ → ℕ → OwnerFound
 owner-found p n = cond (negative n) (Of nobody) (cond (live p Jobs n) (Of (caller p)) Dead)
 
@@ -35,15 +35,15 @@ abbrev pub owner-in : OwnerFound → ℕ
 owner-in (Of o) = o
 owner-in Dead = nobody
 
--- "D3 below 4: -15"
+-- rule 76: "D3 below 4: -15"
 abbrev pub least-data : ℕ
 least-data = 4
 
--- "room for 16 + D2 + D3 rounded up to 16"
+-- rules 68 and 76: "room for 16 + D2 + D3 rounded up to 16"
 abbrev pub job-length : List ℕ → ℕ
 job-length d = block-length (D2 d + D3 d)
 
--- "New job: all but number, owner and base 0; start A1"
+-- rule 77: "New job: all but number, owner and base 0; start A1"
 unfoldable pub created : List ℕ → List ℕ → List ℕ
 created p d = entered
     (placed p (spot p Transient (job-length d)) (job-length d) job-kind (owner-in (owner-found p (D1 d))) (A1 d))
@@ -53,7 +53,7 @@ created p d = entered
     (owner-in (owner-found p (D1 d)))
     (header-byte (spot p Transient (job-length d)))
 
--- "D1 number, A0 first byte of room": of the block at i
+-- rule 77: "D1 number, A0 first byte of room": of the block at i
 unfoldable pub job-registers : ℕ → ℕ → List ℕ → List ℕ
 job-registers number i d = with-A0 (first-byte i) (with-D1 number d)
 

@@ -1,4 +1,4 @@
--- Taking entries out of the tables: the jobs of a set m, the positions of a tree, and their channels.
+-- Taking entries out of the tables (rule 80): the jobs of a set m, the positions of a tree, and their channels.
 use Prim.Native.Nat.{ℕ}
 use mathlib.Core.Bool.{Bool, _&&_, not, cond}
 use mathlib.Core.List.{List}
@@ -15,11 +15,11 @@ use Rattle.calls.specs.Writes.{with-nobody}
 use Rattle.masks.specs.Masks.{without, mask}
 use Rattle.emptying.specs.Each.{each}
 
--- the job at position k is outside the tree and waits for one of it
+-- rule 81: the job at position k is outside the tree and waits for one of it
 unfoldable pub waits : List ℕ → ℕ → ℕ → Bool
 waits p m k = used p Jobs k && (not (bit m k) && (not (eqb (waited-for p k) 0) && named m (waited-for p k)))
 
--- "has timeout and wait 0 and D3 as key to deliver"
+-- rule 81: "has timeout and wait 0 and D3 as key to deliver"
 unfoldable pub woken : ℕ → ℕ → List ℕ → ℕ → List ℕ
 woken m key p k = cond (waits p m k) (with-key (with-wait (with-timeout p k (pos 0)) k 0) k key) p
 
@@ -39,6 +39,6 @@ channel-goes p m k = used p Channels k && named m (owner p Channels k)
 unfoldable pub channels-of : List ℕ → ℕ → ℕ
 channels-of p m = mask (channel-goes p m) (positions Channels)
 
--- the picture without the jobs of m and the channels of c, whose waiters are delivered the key; nobody current
+-- rules 74 and 80: the picture without the jobs of m and the channels of c, whose waiters are delivered the key; nobody current
 unfoldable pub taken : List ℕ → ℕ → ℕ → ℕ → List ℕ
 taken p m c key = with-nobody (emptied (emptied (each (woken m key) (positions Jobs) p) Jobs m) Channels c)

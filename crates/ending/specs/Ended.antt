@@ -1,4 +1,4 @@
--- "Takes the job and all descendants, with their blocks and channels. A job outside the tree waiting for one of them
+-- rule 80: "Takes the job and all descendants, with their blocks and channels. A job outside the tree waiting for one of them
 -- has timeout and wait 0 and D3 as key to deliver."
 use Prim.Native.Nat.{ℕ, _/_}
 use mathlib.Core.List.{List}

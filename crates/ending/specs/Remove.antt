@@ -1,4 +1,4 @@
--- Trap 1 $4, ordinary removal, and $5, forced removal: "live; job 0: -15; for $4, whole tree inactive. .. D1 to A3 become 0."
+-- Trap 1 $4, ordinary removal, and $5, forced removal (rule 79): "live; job 0: -15; for $4, whole tree inactive. .. D1 to A3 become 0."
 use Prim.Native.Nat.{ℕ}
 use mathlib.Core.Bool.{Bool, _&&_, not}
 use mathlib.Core.List.{List, [], _∷_}

@@ -1,4 +1,4 @@
--- Document 01: "Freeing merges with free neighbours in the area; an absorbed header becomes four zeros, other old bytes stay."
+-- Document 01 (rule 98): "Freeing merges with free neighbours in the area; an absorbed header becomes four zeros, other old bytes stay."
 -- One sweep gives back all blocks that go: one block, or those of a set of owners.
 use Prim.Native.Nat.{ℕ, _-_, _*_}
 use mathlib.Core.Bool.{Bool, _&&_, _||_, not, cond}
@@ -18,7 +18,7 @@ use Rattle.headers.specs.Header.{header}
 abbrev pub named : ℕ → ℕ → Bool
 named m o = ltb (position o) (positions Jobs) && bit m (position o)
 
--- the block at i goes: it is in use, and it is the one at a or its owner's position is in the set m
+-- rule 80: the block at i goes: it is in use, and it is the one at a or its owner's position is in the set m
 unfoldable pub goes : List ℕ → ℕ → ℕ → ℕ → Bool
 goes p m a i = not (free p i) && (eqb i a || named m (holder p i))
 

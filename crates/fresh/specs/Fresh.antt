@@ -1,4 +1,4 @@
--- Document 01: "Fresh: N, H and job mask set, job 0 unowned, at priority 32 and current, two whole free blocks, all else 0."
+-- Document 01 (rule 60): "Fresh: N, H and job mask set, job 0 unowned, at priority 32 and current, two whole free blocks, all else 0."
 use Prim.Native.Nat.{ℕ, _+_, _-_, _*_}
 use mathlib.Core.Bool.{Bool, _&&_, cond}
 use mathlib.Core.List.{List}
@@ -16,7 +16,7 @@ use Rattle.sound_whole.specs.Whole.{size-within, heap-within}
 abbrev pub first-priority : ℕ
 first-priority = 32
 
--- a fresh picture of n longwords, h of them the heap; job 0 is current, whose number is 0
+-- rule 60: a fresh picture of n longwords, h of them the heap; job 0 is current, whose number is 0
 unfoldable pub fresh : ℕ → ℕ → List ℕ
 fresh n h =
     put (put (put (put (with-members (put (put (replicate n 0)
@@ -28,7 +28,7 @@ fresh n h =
     heap-base (h * 4))
     (heap-base + h) ((n - (heap-base + h)) * 4)
 
--- "A bad N or H, or a lent length other than N, answers -4 and writes nothing."
+-- rule 61: "A bad N or H, or a lent length other than N, answers -4 and writes nothing."
 unfoldable pub fresh-good : ℕ → ℕ → ℕ → Bool
 fresh-good length n h = eqb length n && (size-within n && heap-within n h)
 

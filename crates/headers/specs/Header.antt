@@ -1,4 +1,4 @@
--- Document 01: "Header: whole length in bytes ..; kind ..; owner; start address for a job, else 0."
+-- Document 01 (rule 13): "Header: whole length in bytes ..; kind ..; owner; start address for a job, else 0."
 use Prim.Native.Nat.{ℕ, _<_, _≤_}
 use mathlib.Core.List.{List}
 use mathlib.Core.Logic.{_⊎_}

@@ -1,4 +1,4 @@
--- Document 01, "Each call, checks in order": $0 and $8 to $B.
+-- Document 01, "Each call, checks in order": $0 and $8 to $B. A success of $8 to $B leaves nobody current (rule 74).
 use Prim.Native.Nat.{ℕ}
 use mathlib.Core.Bool.{not, _&&_}
 use mathlib.Core.List.{List, [], _∷_}
@@ -17,7 +17,7 @@ use Rattle.effects.specs.Effects.{naming, suspends, suspended, released, low-by
 abbrev pub version : ℕ
 version = 0x312E_3030
 
--- "$0: D1 current, D2 $312E3030, A0 0."
+-- rule 75: "$0: D1 current, D2 $312E3030, A0 0."
 unfoldable pub information : Call
 information p d = record {
   checks = [];
@@ -29,7 +29,7 @@ information p d = record {
 abbrev pub job : List ℕ → List ℕ → ℕ
 job p d = meant p (D1 d)
 
--- "$8: live; D3's low word 1 to 32,767 or -1, A1 0 (else -15). Sets the timeout, ends any wait, clears accumulated and key."
+-- rule 83: "$8: live; D3's low word 1 to 32,767 or -1, A1 0 (else -15). Sets the timeout, ends any wait, clears accumulated and key."
 unfoldable pub suspend : Call
 suspend p d = record {
   checks =
@@ -39,7 +39,7 @@ suspend p d = record {
   registers = naming (job p d) (job-position p d) d;
 }
 
--- "$9: live. Suspended: timeout, wait and key become 0."
+-- rule 84: "$9: live. Suspended: timeout, wait and key become 0."
 unfoldable pub release : Call
 release p d = record {
   checks = job-check (job-at p (job p d)) ∷ [];
@@ -47,7 +47,7 @@ release p d = record {
   registers = naming (job p d) (job-position p d) d;
 }
 
--- "$A: live; inactive; D2's low byte 1 to 127; D3's low word 0 or -1, and not -1 for job 0. Sets priority, accumulated 0.
+-- rule 85: "$A: live; inactive; D2's low byte 1 to 127; D3's low word 0 or -1, and not -1 for job 0. Sets priority, accumulated 0.
 -- With -1 the caller has timeout -1, accumulated 0, and waits."
 unfoldable pub activate : Call
 activate p d = record {
@@ -60,7 +60,7 @@ activate p d = record {
   registers = naming (job p d) (job-position p d) d;
 }
 
--- "$B: live; low byte of D2 at most 127. Sets priority, clears accumulated."
+-- rule 86: "$B: live; low byte of D2 at most 127. Sets priority, clears accumulated."
 unfoldable pub set-priority : Call
 set-priority p d = record {
   checks =

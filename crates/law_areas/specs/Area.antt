@@ -7,15 +7,15 @@ use Rattle.words.specs.Each.{In, total}
 use Rattle.blocks.specs.Header.{size, free, holder, start}
 use Rattle.blocks.specs.Walk.{good, next, starts}
 
--- "blocks tile each area exactly": each block that the walk meets is whole
+-- rule 39: "blocks tile each area exactly": each block that the walk meets is whole
 abbrev pub Tiled : List ℕ → ℕ → ℕ → Type 0
 Tiled p base e = (i : ℕ) → In i (starts p base e) → good p i e ≡ true
 
--- "no two free blocks touch within an area"
+-- rule 40: "no two free blocks touch within an area"
 abbrev pub Apart : List ℕ → ℕ → ℕ → Type 0
 Apart p base e = (i : ℕ) → In i (starts p base e) → free p i ≡ true → next p i e < e → free p (next p i e) ≡ false
 
--- "a free header is length, 0, 0, 0"
+-- rule 37: "a free header is length, 0, 0, 0"
 abbrev pub Blank : List ℕ → ℕ → ℕ → Type 0
 Blank p base e = (i : ℕ) → In i (starts p base e) → free p i ≡ true → (holder p i ≡ 0) × (start p i ≡ 0)
 

@@ -1,4 +1,4 @@
--- The tree of a job in words: the job itself, and each job whose owner is in the tree.
+-- The tree of a job in words (rule 73): the job itself, and each job whose owner is in the tree.
 use Prim.Native.Nat.{ℕ}
 use mathlib.Core.Path.{_≡_}
 use mathlib.Core.Bool.{true}

@@ -1,4 +1,4 @@
--- The queue of a channel as a person pictures it.
+-- The queue of a channel as a person pictures it (rule 14).
 use Prim.Native.Nat.{ℕ}
 use mathlib.Core.List.{List}
 use Rattle.picture.specs.Numbers.{position}

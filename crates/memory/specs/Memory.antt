@@ -17,7 +17,7 @@ use Rattle.calls.specs.Call.{Call}
 use Rattle.calls.specs.Found.{job-check}
 use Rattle.calls.specs.Registers.{D1, D2, A0, with-D1, with-A0, cleared, meant}
 
--- "$6: D1 longest free transient block less 16, or 0; D2 to A3 become 0."
+-- rule 82: "$6: D1 longest free transient block less 16, or 0; D2 to A3 become 0."
 unfoldable pub longest-room : Call
 longest-room p d = record {
   checks = [];
@@ -25,15 +25,15 @@ longest-room p d = record {
   registers = with-D1 (longest p (from p Transient) (upto p Transient) - 16) (cleared d);
 }
 
--- "$18: D1 1 to 2^31 - 1"
+-- rule 88: "$18: D1 1 to 2^31 - 1"
 unfoldable pub length-good : ℕ → Bool
 length-good n = leb 1 n && ltb n 2147483648
 
--- "room for 16 + D1 rounded up to 16"
+-- rules 68 and 88: "room for 16 + D1 rounded up to 16"
 abbrev pub taken-length : List ℕ → ℕ
 taken-length d = block-length (D1 d)
 
--- "D1 usable bytes, A0 first of them; D2, D3, A1 to A3 become 0": of the block of this length at i
+-- rule 88: "D1 usable bytes, A0 first of them; D2, D3, A1 to A3 become 0": of the block of this length at i
 unfoldable pub room-registers : ℕ → ℕ → List ℕ → List ℕ
 room-registers length i d = with-A0 (first-byte i) (with-D1 (length - 16) (cleared d))
 
@@ -51,7 +51,7 @@ take p d = record {
   registers = room-registers (taken-length d) (spot p Heap (taken-length d)) d;
 }
 
--- "$19: A0 is the first byte after a plain block's header": of the block at i
+-- rule 89: "$19: A0 is the first byte after a plain block's header": of the block at i
 unfoldable pub plain-room : List ℕ → ℕ → ℕ → Bool
 plain-room p a i = eqb (kind p i) plain-kind && eqb (first-byte i) a
 
@@ -67,7 +67,7 @@ block-before a = a / 4 - 4
 unfoldable pub given-back : List ℕ → ℕ → List ℕ
 given-back p a = swept p (from p Heap) (upto p Heap) 0 (block-before a)
 
--- "else -15. D0 to A3 become 0."
+-- rule 89: "else -15. D0 to A3 become 0."
 unfoldable pub give-back : Call
 give-back p d = record {
   checks = (is-plain-room p (A0 d), bad-parameter) ∷ [];

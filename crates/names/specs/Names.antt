@@ -1,4 +1,4 @@
--- Document 01: "name PIPE_n, either case". A name is a list of bytes of any length.
+-- Document 01 (rule 91): "name PIPE_n, either case". A name is a list of bytes of any length.
 use Prim.Native.Nat.{ℕ, _+_, _-_, _*_}
 use mathlib.Core.Bool.{Bool, true, false, _&&_, _||_, cond}
 use mathlib.Core.List.{List, [], _∷_}

@@ -1,4 +1,4 @@
--- Document 01: trap 2 $1.
+-- Document 01: trap 2 $1 (rule 90).
 use Prim.Native.Nat.{ℕ}
 use mathlib.Core.List.{List, [], _∷_}
 use Rattle.picture.specs.Keys.{channel-not-open}

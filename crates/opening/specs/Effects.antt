@@ -1,4 +1,4 @@
--- What opening a channel does to the picture and the registers.
+-- What opening a channel does to the picture and the registers (rule 90).
 use Prim.Native.Nat.{ℕ, _+_}
 use mathlib.Core.List.{List}
 use Rattle.picture.specs.Records.{with-ending}

@@ -1,4 +1,4 @@
--- Document 01, "Keys": a key is a signed 32-bit number; the values are those of the guide, section 18.1.
+-- Document 01, "Keys" (rule 62): a key is a signed 32-bit number; the values are those of the guide, section 18.1.
 use lib.IntN.{ℤ, pos, negsuc}
 
 -- 0: done

@@ -1,4 +1,4 @@
--- Document 01, "The picture": what each longword holds. Every number of the layout has its one home here.
+-- Document 01, "The picture" (rules 3 and 4): what each longword holds. Every number of the layout has its one home here.
 use Prim.Native.Nat.{ℕ, _+_, _*_, _/_}
 use mathlib.Core.List.{List}
 use lib.IntN.{ℤ, negsuc}
@@ -12,7 +12,7 @@ use Rattle.picture.specs.declared.Area.the-variants.{Heap, Transient}
 abbrev pub nobody : ℕ
 nobody = 0xFFFF_FFFF
 
--- longword 0 holds N, 1,024 to 16,384
+-- rules 3 and 4: longword 0 holds N, 1,024 to 16,384
 abbrev pub size-word : ℕ
 size-word = 0
 
@@ -31,7 +31,7 @@ abbrev pub last-word : Table → ℕ
 last-word Jobs = 2
 last-word Channels = 3
 
--- tags run to 32,767
+-- rule 10: tags run to 32,767
 abbrev pub greatest-tag : ℕ
 greatest-tag = 32767
 
@@ -76,7 +76,7 @@ abbrev pub upto : List ℕ → Area → ℕ
 upto p Heap = heap-base + word p heap-word
 upto p Transient = word p size-word
 
--- priorities run to 127, accumulated to 8,191, timeouts to 32,767 frames
+-- rule 7: priorities run to 127, accumulated to 8,191, timeouts to 32,767 frames
 abbrev pub greatest-priority : ℕ
 greatest-priority = 127
 
@@ -86,6 +86,6 @@ hold = 8191
 abbrev pub greatest-timeout : ℕ
 greatest-timeout = 32767
 
--- timeout -1: without end
+-- rule 7: timeout -1: without end
 abbrev pub without-end : ℤ
 without-end = negsuc 0

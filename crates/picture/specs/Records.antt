@@ -1,4 +1,4 @@
--- Document 01, "Job record" and "Channel record": the fields of the record of position k.
+-- Document 01, "Job record" and "Channel record" (rules 7 and 8): the fields of the record of position k.
 use Prim.Native.Nat.{ℕ, _+_, _*_}
 use mathlib.Core.Bool.{Bool, _&&_}
 use mathlib.Core.List.{List}
@@ -22,7 +22,7 @@ field p t k f = word p (slot t k + f)
 abbrev pub with-field : List ℕ → Table → ℕ → ℕ → ℕ → List ℕ
 with-field p t k f v = put p (slot t k + f) v
 
--- of both tables: "number, owner, block base"
+-- rules 7 and 8: of both tables: "number, owner, block base"
 abbrev pub number-field : ℕ
 number-field = 0
 
@@ -32,7 +32,7 @@ owner-field = 1
 abbrev pub base-field : ℕ
 base-field = 2
 
--- of a job: "priority .., accumulated .., timeout .., number of the job waited for .., key to deliver"
+-- rule 7: of a job: "priority .., accumulated .., timeout .., number of the job waited for .., key to deliver"
 abbrev pub priority-field : ℕ
 priority-field = 3
 
@@ -48,7 +48,7 @@ wait-field = 6
 abbrev pub key-field : ℕ
 key-field = 7
 
--- of a channel: its last longword, "1"
+-- rule 8: of a channel: its last longword, "1"
 abbrev pub ending-field : ℕ
 ending-field = 3
 
@@ -115,11 +115,11 @@ members p t = word p (mask-word t)
 unfoldable pub with-members : List ℕ → Table → ℕ → List ℕ
 with-members p t m = put p (mask-word t) m
 
--- "bit k: position k in use"
+-- rule 5: "bit k: position k in use"
 unfoldable pub used : List ℕ → Table → ℕ → Bool
 used p t k = ltb k (positions t) && bit (members p t) k
 
--- ready: priority at least 1 and timeout 0; active: priority at least 1
+-- rule 58: ready: priority at least 1 and timeout 0; active: priority at least 1
 unfoldable pub ready : List ℕ → ℕ → Bool
 ready p k = leb 1 (priority p k) && eqZ (timeout p k) (pos 0)
 

@@ -1,4 +1,4 @@
--- The session program's lines: one frame a line, without its line feed.
+-- The session program's lines (rules 109 and 110): one frame a line, without its line feed.
 use mathlib.Core.Path.{_≡_}
 use mathlib.Core.List.{List, [], _∷_}
 use Prim.Native.Nat.{ℕ, _-_, _/_, _%_}
@@ -16,11 +16,11 @@ pub data Frame : Type 0 where
   ticks : Frame
   traps : ℕ → List ℕ → List ℕ → Frame
 
--- F0 and F1 have nothing after
+-- rule 109: F0 and F1 have nothing after
 unfoldable pub alone : List ℕ → Frame → Frame
 alone s f = pick (eqb (length s) 2) f bad
 
--- a trap by the number n: eight registers, then, for trap 2 only, any name's bytes; fewer than 66 digits and digits left over are bad
+-- rule 109: a trap by the number n: eight registers, then, for trap 2 only, any name's bytes; fewer than 66 digits and digits left over are bad
 unfoldable pub trapped : ℕ → List ℕ → Frame
 trapped n s =
     pick (ltb (length s) 66) bad
@@ -31,7 +31,7 @@ trapped n s =
 unfoldable pub called : ℕ → List ℕ → Frame
 called n s = pick (eqb n 0xF0) (alone s picks) (pick (eqb n 0xF1) (alone s ticks) (trapped n s))
 
--- a line is bad if empty, over 512 characters, of an odd count, or with a character that is not hexadecimal
+-- rule 110: a line is bad if empty, over 512 characters, of an odd count, or with a character that is not hexadecimal
 unfoldable pub frame : List ℕ → Frame
 frame s =
     pick (eqb (length s) 0) bad

@@ -1,4 +1,4 @@
--- Hexadecimal as it is written: capitals, at a place of a text that is lent.
+-- Hexadecimal as it is written (rule 112): capitals, at a place of a text that is lent.
 use Prim.Native.Nat.{ℕ, zero, suc, _+_, _*_, _/_, _%_}
 use mathlib.Core.Bool.{Bool}
 use mathlib.Core.List.{List, [], _∷_}
@@ -35,6 +35,6 @@ with-number s i n x = pick (fits s i n) (written s i n x) s
 unfoldable pub with-words : List ℕ → ℕ → List ℕ → List ℕ
 with-words s i xs = pick (fits s i (8 * length xs)) (written-words s i xs) s
 
--- an answer: words and a line feed
+-- rule 108: an answer: words and a line feed
 unfoldable pub with-answer : List ℕ → ℕ → List ℕ → List ℕ
 with-answer s i xs = set (with-words s i xs) (past s i (8 * length xs)) 10

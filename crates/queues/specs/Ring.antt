@@ -1,4 +1,4 @@
--- Document 01: "A queue's room: length n .., index of the oldest byte (below n), count (0 to n)". The queue at i is that of the block at i.
+-- Document 01 (rule 14): "A queue's room: length n .., index of the oldest byte (below n), count (0 to n)". The queue at i is that of the block at i.
 use Prim.Native.Nat.{ℕ, zero, suc, _+_, _-_, _≤_, _<_}
 use mathlib.Core.Bool.{Bool, cond}
 use mathlib.Core.List.{List, [], _∷_, _++_}
@@ -7,13 +7,13 @@ use Rattle.blocks.specs.Header.{queue-length, queue-oldest, queue-count, with-q
 use Rattle.sound_areas.specs.Rules.{longest-queue}
 use Rattle.queues.specs.Bytes.{byte-at, with-byte-at}
 
--- what soundness says of a ring
+-- rule 38: what soundness says of a ring
 pub record Ring (p : List ℕ) (i : ℕ) : Type 0 where
   pub most : queue-length p i ≤ longest-queue
   pub oldest : queue-oldest p i < queue-length p i
   pub held : queue-count p i ≤ queue-length p i
 
--- an index, "round at n"
+-- rule 95: an index, "round at n"
 unfoldable pub round : ℕ → ℕ → ℕ
 round n x = cond (ltb x n) x (x - n)
 
@@ -21,11 +21,11 @@ round n x = cond (ltb x n) x (x - n)
 unfoldable pub index : List ℕ → ℕ → ℕ → ℕ
 index p i j = round (queue-length p i) (queue-oldest p i + j)
 
--- a byte waits
+-- rule 94: a byte waits
 unfoldable pub waits : List ℕ → ℕ → Bool
 waits p i = leb 1 (queue-count p i)
 
--- the queue is full
+-- rule 96: the queue is full
 unfoldable pub full : List ℕ → ℕ → Bool
 full p i = leb (queue-length p i) (queue-count p i)
 
@@ -33,11 +33,11 @@ full p i = leb (queue-length p i) (queue-count p i)
 unfoldable pub oldest-byte : List ℕ → ℕ → ℕ
 oldest-byte p i = byte-at p i (queue-oldest p i)
 
--- "takes the oldest .. the byte stays, the index steps up, round at n"
+-- rule 95: "takes the oldest .. the byte stays, the index steps up, round at n"
 unfoldable pub fetched : List ℕ → ℕ → List ℕ
 fetched p i = with-queue-count (with-queue-oldest p i (index p i 1)) i (queue-count p i - 1)
 
--- "writes D1's low byte behind the newest"
+-- rule 96: "writes D1's low byte behind the newest"
 unfoldable pub sent : List ℕ → ℕ → ℕ → List ℕ
 sent p i b = with-queue-count (with-byte-at p i (index p i (queue-count p i)) b) i (queue-count p i + 1)
 

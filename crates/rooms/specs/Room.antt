@@ -11,15 +11,15 @@ use Rattle.placing.specs.declared.Placement.{Placement}
 use Rattle.placing.specs.declared.Placement.the-variants.{At, Nowhere}
 use Rattle.calls.specs.Call.{Check}
 
--- the length of a block with n bytes of room: 16 + n, "rounded up to 16"
+-- rule 68: the length of a block with n bytes of room: 16 + n, "rounded up to 16"
 abbrev pub block-length : ℕ → ℕ
 block-length n = rounded (16 + n)
 
--- where n bytes find room in the area
+-- rule 72: where n bytes find room in the area
 abbrev pub room-at : List ℕ → Area → ℕ → Placement
 room-at p a n = answer p (from p a) (upto p a) n
 
--- "no free block of that area is long enough": -3
+-- rule 72: "no free block of that area is long enough": -3
 abbrev pub room-check : Placement → Check
 room-check (At i) = (true, done)
 room-check Nowhere = (false, out-of-memory)
@@ -33,10 +33,10 @@ room-place Nowhere = 0
 abbrev pub spot : List ℕ → Area → ℕ → ℕ
 spot p a n = room-place (room-at p a n)
 
--- the byte offset of the header of the block at i
+-- rule 3: the byte offset of the header of the block at i
 abbrev pub header-byte : ℕ → ℕ
 header-byte i = 4 * i
 
--- the byte offset of its first byte of room
+-- rule 77: the byte offset of its first byte of room
 abbrev pub first-byte : ℕ → ℕ
 first-byte i = header-byte i + 16

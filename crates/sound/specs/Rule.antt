@@ -1,4 +1,4 @@
--- The rules of soundness by name. Each says what the definition of that name says.
+-- The rules of soundness by name (rule 16). Each says what the definition of that name says.
 use mathlib.Core.List.{List, [], _∷_}
 use Rattle.picture.specs.declared.Table.{Table}
 use Rattle.picture.specs.declared.Table.the-variants.{Jobs, Channels}
@@ -38,7 +38,7 @@ pub data Rule : Type 0 where
   wait-allowed : Rule
   idle-zero : Rule
 
--- all of them, in document 01's order
+-- rule 16: all of them, in document 01's order
 abbrev pub rules : List Rule
 rules =
     size-stated ∷

@@ -1,4 +1,4 @@
--- Document 01: "A picture is sound if ..": every rule holds.
+-- Document 01 (rule 16): "A picture is sound if ..": every rule holds.
 use Prim.Native.Nat.{ℕ}
 use mathlib.Core.Bool.{Bool, true, _&&_}
 use mathlib.Core.List.{List, [], _∷_}
@@ -66,6 +66,6 @@ abbrev pub all-hold : List ℕ → List Rule → Bool
 all-hold p [] = true
 all-hold p (r ∷ l) = passes p (test r) && all-hold p l
 
--- the picture is sound
+-- rules 16 and 59: the picture is sound
 unfoldable pub sound : List ℕ → Bool
 sound p = all-hold p rules

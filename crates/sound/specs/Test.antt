@@ -1,4 +1,4 @@
--- What the test computes: the same rules in one pass over each table and one walk of each area. It equals `sound`.
+-- What the test computes: the same rules in one pass over each table and one walk of each area. It equals `sound` (rule 16).
 use Prim.Native.Nat.{ℕ}
 use mathlib.Core.Bool.{Bool, false, _&&_}
 use mathlib.Core.List.{List}

@@ -14,7 +14,7 @@ use Rattle.blocks.specs.Header.{holder}
 unfoldable pub agrees : List ℕ → Table → ℕ → ℕ → Bool
 agrees p t k i = eqb (base p t k) (4 * i) && eqb (owner p t k) (holder p i)
 
--- the block at i agrees with some record of the table
+-- rules 42 and 44: the block at i agrees with some record of the table
 unfoldable pub agreed : List ℕ → Table → ℕ → Bool
 agreed p t i = not (every (λ (k : ℕ). not (agrees p t k i)) (positions t))
 

@@ -1,4 +1,4 @@
--- Document 01: "live jobs other than 0 and kind 3 blocks match one to one, channels and kind 2 blocks too,
+-- Document 01 (rules 42 to 45): "live jobs other than 0 and kind 3 blocks match one to one, channels and kind 2 blocks too,
 -- the record's base being the header's first byte and owners equal".
 use Prim.Native.Nat.{ℕ, _+_, _*_}
 use mathlib.Core.Bool.{Bool, _&&_, _||_, not}
@@ -32,7 +32,7 @@ has-block p t k = leb (first t) k && used p t k
 unfoldable pub pair : List ℕ → Table → ℕ → ℕ → Bool
 pair p t k i = eqb (base p t k) (4 * i) && (has-block p t k && eqb (owner p t k) (holder p i))
 
--- a block of the table's kind is that of exactly one entry
+-- rules 42 and 44: a block of the table's kind is that of exactly one entry
 unfoldable pub block-matched : List ℕ → Table → ℕ → Bool
 block-matched p t i = not (eqb (kind p i) (kind-of t)) || eqb (count (λ (k : ℕ). pair p t k i) (positions t)) 1
 
@@ -40,6 +40,6 @@ block-matched p t i = not (eqb (kind p i) (kind-of t)) || eqb (count (λ (k : �
 unfoldable pub matches : List ℕ → Table → ℕ → ℕ → Bool
 matches p t k i = eqb (kind p i) (kind-of t) && pair p t k i
 
--- an entry that has a block finds it in the table's area
+-- rules 43 and 45: an entry that has a block finds it in the table's area
 unfoldable pub entry-matched : List ℕ → Table → ℕ → Bool
 entry-matched p t k = not (has-block p t k) || any (matches p t k) (blocks p (area-of t))

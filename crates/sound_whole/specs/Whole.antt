@@ -11,31 +11,31 @@ use Rattle.picture.specs.Numbers.{position, live}
 use Rattle.picture.specs.declared.Table.{Table}
 use Rattle.picture.specs.declared.Table.the-variants.{Jobs, Channels}
 
--- "N of them: 1,024 to 16,384, a multiple of 4"
+-- rule 3: "N of them: 1,024 to 16,384, a multiple of 4"
 abbrev pub size-within : ℕ → Bool
 size-within n = leb least-size n && (leb n greatest-size && eqb (n % 4) 0)
 
--- "H is a multiple of 4, at least 4, and leaves the transient area at least 4"
+-- rule 6: "H is a multiple of 4, at least 4, and leaves the transient area at least 4"
 abbrev pub heap-within : ℕ → ℕ → Bool
 heap-within n h = eqb (h % 4) 0 && (leb 4 h && leb (heap-base + h + 4) n)
 
--- longword 0 holds N, the lent length, and N is within its limits
+-- rule 17: longword 0 holds N, the lent length, and N is within its limits
 unfoldable pub size-stated : List ℕ → Bool
 size-stated p = eqb (word p size-word) (length p) && size-within (length p)
 
--- longword 7 holds 0
+-- rule 18: longword 7 holds 0
 unfoldable pub seven-zero : List ℕ → Bool
 seven-zero p = eqb (word p zero-word) 0
 
--- longword 4 holds H, and H is within its limits
+-- rule 19: longword 4 holds H, and H is within its limits
 unfoldable pub heap-stated : List ℕ → Bool
 heap-stated p = heap-within (word p size-word) (word p heap-word)
 
--- "the last given, which is at most 32,767"
+-- rules 53 and 54: "the last given, which is at most 32,767"
 unfoldable pub last-within : List ℕ → Table → Bool
 last-within p t = leb (word p (last-word t)) greatest-tag
 
--- "longword 1 is nobody or a ready job"
+-- rule 55: "longword 1 is nobody or a ready job"
 unfoldable pub current-ready : List ℕ → Bool
 current-ready p = eqb (word p current-word) nobody || (live p Jobs (word p current-word) && ready p (position (word p current-word)))
 

@@ -1,4 +1,4 @@
--- Timeouts in registers: "timeouts as signed with -1 without end, words of registers read as signed halves".
+-- Timeouts in registers (rule 69): "timeouts as signed with -1 without end, words of registers read as signed halves".
 use Prim.Native.Nat.{ℕ}
 use mathlib.Core.Bool.{_&&_, cond}
 use lib.IntN.{ℤ, pos}

@@ -1,4 +1,4 @@
--- Document 01, "The calls that the hub uses": the call that a trap number and D0 name.
+-- Document 01, "The calls that the hub uses" (rule 1): the call that a trap number and D0 name.
 use Prim.Native.Nat.{ℕ}
 use mathlib.Core.Bool.{false, cond}
 use mathlib.Core.List.{List, [], _∷_}
@@ -19,7 +19,7 @@ abbrev pub among : ℕ → List (ℕ × Call) → Call → Call
 among n [] c = c
 among n (e ∷ l) c = cond (eqb n (e .0)) (e .1) (among n l c)
 
--- an unknown trap or call: a check that never passes
+-- rule 64: an unknown trap or call: a check that never passes
 abbrev pub unknown : Call
 unknown p d = record { checks = (false, bad-parameter) ∷ []; picture = p; registers = d }
 
@@ -39,7 +39,7 @@ calls-one =
     (0x18, take) ∷
     (0x19, give-back) ∷ []
 
--- the calls of trap 2
+-- rules 1 and 63: the calls of trap 2
 abbrev pub calls-two : List ℕ → List (ℕ × Call)
 calls-two name = (0x1, open-channel name) ∷ (0x2, close-channel) ∷ []
 
@@ -60,6 +60,6 @@ trap-three code = among code calls-three unknown
 abbrev pub traps : ℕ → List ℕ → List (ℕ × Call)
 traps code name = (1, trap-one code) ∷ (2, trap-two code name) ∷ (3, trap-three code) ∷ []
 
--- the call that a trap number and D0 name
+-- rule 64: the call that a trap number and D0 name
 unfoldable pub call-named : ℕ → List ℕ → Call
 call-named trap name p d = among trap (traps (word d 0) name) unknown p d

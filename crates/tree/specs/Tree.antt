@@ -1,4 +1,4 @@
--- The tree of a job, computed.
+-- The tree of a job, computed (rule 73).
 use Prim.Native.Nat.{ℕ, zero, suc}
 use mathlib.Core.Bool.{Bool, _&&_, _||_, not}
 use mathlib.Core.List.{List}

@@ -3,6 +3,6 @@ use Prim.Native.Nat.{ℕ, _/_, _%_, _^_}
 use mathlib.Core.Bool.{Bool}
 use lib.Dec.{eqb}
 
--- bit k of m is set
+-- rule 5: bit k of m is set
 abbrev pub bit : ℕ → ℕ → Bool
 bit m k = eqb (m / 2 ^ k % 2) 1

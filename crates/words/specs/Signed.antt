@@ -1,4 +1,4 @@
--- Signed numbers: "The key is a signed 32-bit number", "timeouts as signed".
+-- Signed numbers: "The key is a signed 32-bit number", "timeouts as signed" (rules 7 and 62).
 use Prim.Native.Nat.{ℕ}
 use mathlib.Core.Bool.{Bool, false}
 use lib.Dec.{eqb}

@@ -1,4 +1,4 @@
--- Longwords of a picture. A picture is a list of longwords, and an index counts longwords.
+-- Longwords of a picture (rule 3). A picture is a list of longwords, and an index counts longwords.
 use Prim.Native.Nat.{ℕ, zero, suc, _+_, _%_}
 use mathlib.Core.List.{List}
 use lib.ListN.{getD, set}
@@ -11,11 +11,11 @@ word p i = getD p i 0
 abbrev pub put : List ℕ → ℕ → ℕ → List ℕ
 put p i v = set p i v
 
--- the low word of a register
+-- rule 69: the low word of a register
 abbrev pub low-word : ℕ → ℕ
 low-word register = register % 65536
 
--- the picture with n longwords from i on cleared
+-- rule 97: the picture with n longwords from i on cleared
 unfoldable pub clear : ℕ → List ℕ → ℕ → List ℕ
 clear zero p i = p
 clear (suc n) p i = clear n (put p i 0) (i + 1)
