@@ -18,6 +18,6 @@ unfoldable pub next-below : ℕ → List ℕ → ℕ → ℕ → ℕ
 next-below zero p m g = 0
 next-below (suc i) p m g = let n = next-below i p m g in cond (nearer p m g n i) (number p Jobs i) n
 
--- the number of the member of m with the next tag after g, or 0
+-- the number of the member of m with the next tag after g, or 0: in plain words `the-next-member-has-the-next-greater-tag` (law_asking/proofs/Next.antt)
 unfoldable pub next-member : List ℕ → ℕ → ℕ → ℕ
 next-member p m g = next-below (positions Jobs) p m g

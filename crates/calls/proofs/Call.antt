@@ -1,15 +1,14 @@
--- What every guarded call has, by induction over its list of checks: the first check that fails gives its key, a refusal changes
--- nothing else, and each key is given exactly for its cause.
+-- What every guarded call has, by induction over its list of checks: the first check that fails gives its key, and a refusal changes
+-- nothing else.
 use Prim.Native.Nat.{ℕ, _+_, _*_}
 use mathlib.Core.Path.{_≡_, refl, sym, ap, _∙_}
 use mathlib.Core.Bool.{Bool, true, false, cond}
-use mathlib.Core.Logic.{_⊎_, inl, inr}
 use mathlib.Core.List.{List, [], _∷_, _++_}
 use native.Mathlib.Omega.{arith}
 use lib.IntN.{ℤ, pos, negsuc}
 use Rattle.picture.specs.Keys.{done, not-complete, invalid-job, out-of-memory, channel-not-open, not-found, bad-name, bad-parameter}
 use Rattle.calls.specs.Outcome.{Outcome, refuse, succeed}
-use Rattle.calls.specs.Call.{Check, Guarded, Call, settled, outcome, verdict, Cause}
+use Rattle.calls.specs.Call.{Check, Guarded, Call, settled, outcome, verdict}
 
 -- all checks of a list pass
 abbrev pub Passed : List Check → Type 0
@@ -59,30 +58,6 @@ module _ (c : Call) (p d : List ℕ) where
   pub key-is-the-verdict : outcome c p d .key ≡ verdict (c p d .checks)
   unfolding outcome
   key-is-the-verdict = settled-key (c p d .checks) p d (success (c p d)) refl
-
--- the verdict of checks is a key only for its cause
-pub cause-of : (l : List Check) (k : ℤ) → verdict l ≡ k → Cause k l
-cause-of [] k e = sym e
-cause-of (c ∷ l) k e = go (c .0) refl (λ z. cause-of l k z) e
-  where
-    go : (b : Bool) → c .0 ≡ b → (verdict l ≡ k → Cause k l) → cond b (verdict l) (c .1) ≡ k → ((c .0 ≡ true) × Cause k l) ⊎ ((c .0 ≡ false) × (k ≡ c .1))
-    go true q r z = inl (q, r z)
-    go false q r z = inr (q, sym z)
-
--- and for that cause always
-pub verdict-of : (l : List Check) (k : ℤ) → Cause k l → verdict l ≡ k
-verdict-of [] k e = sym e
-verdict-of (c ∷ l) k (inl z) = rw (z .0) (verdict-of l k (z .1))
-verdict-of (c ∷ l) k (inr z) = rw (z .0) (sym (z .1))
-
--- all checks of a list but the last
-abbrev pub but-last : List Check → List Check
-but-last [] = []
-but-last (c ∷ l) = go c l
-  where
-    go : Check → List Check → List Check
-    go c [] = []
-    go c (b ∷ l) = c ∷ go b l
 
 -- no check of a list gives the key k
 abbrev pub Never : ℤ → List Check → Type 0

@@ -1,8 +1,6 @@
 -- A guarded call: a list of checks, each a test with its key, in document 01's order, and an effect (rule 64).
 use Prim.Native.Nat.{ℕ}
-use mathlib.Core.Path.{_≡_}
-use mathlib.Core.Bool.{Bool, true, false, cond}
-use mathlib.Core.Logic.{_⊎_}
+use mathlib.Core.Bool.{Bool, cond}
 use mathlib.Core.List.{List, [], _∷_}
 use lib.IntN.{ℤ}
 use Rattle.picture.specs.Keys.{done}
@@ -35,8 +33,3 @@ outcome c p d = settled (c p d .checks) p d (succeed (c p d .picture) (c p d .re
 abbrev pub verdict : List Check → ℤ
 verdict [] = done
 verdict (c ∷ l) = cond (c .0) (verdict l) (c .1)
-
--- rule 62: the exact condition for a key: the checks before pass, and the first that fails has that key; or all pass and the key is 0
-abbrev pub Cause : ℤ → List Check → Type 0
-Cause k [] = k ≡ done
-Cause k (c ∷ l) = ((c .0 ≡ true) × Cause k l) ⊎ ((c .0 ≡ false) × (k ≡ c .1))

@@ -18,6 +18,7 @@ no-block = 0
 unfoldable pub returned : List ℕ → ℕ → ℕ → List ℕ
 returned p m a = swept (swept p (from p Heap) (upto p Heap) m no-block) (from p Transient) (upto p Transient) m a
 
--- the picture without the tree of the job at position t
+-- the picture without the tree of the job at position t: in plain words `Leaves` and `Takes` (law_ending/specs/Promise.antt), by `ending-takes-the-tree-and-no-more`
+-- (law_promises/proofs/Ending.antt)
 unfoldable pub ended : List ℕ → ℕ → ℕ → List ℕ
 ended p t key = taken (returned p (tree p t) (base p Jobs t / 4)) (tree p t) (channels-of p (tree p t)) key

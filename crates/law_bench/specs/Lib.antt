@@ -1,1 +1,2 @@
--- The table stands in proofs/: this crate has no definitions.
+-- The desk bench's table.
+pub mod Table

@@ -1,4 +1,4 @@
--- The desk bench's picks and the longest waits, computed.
+-- The longest waits, computed.
 use Prim.Native.Nat.{ℕ, zero, suc, _+_, _-_}
 use mathlib.Core.Path.{_≡_, refl, sym, _∙_}
 use mathlib.Core.Logic.{⊎-elim}
@@ -17,13 +17,8 @@ use Rattle.picture.specs.Layout.{greatest-priority}
 use Rattle.turns.specs.Fields.{set-each}
 use Rattle.turns.specs.Pick.{preferred, chosen-below, chosen-job, accumulated-after, turn-given, picked, picked-number}
 use Rattle.law_picks.specs.Stretch.{Orderly, Stands, Stretch, over, pick, pick-bound}
-use Rattle.law_picks.specs.Bench.{set-up, picks, answers, full-house, last-position, last-number, DeskBench, WaitsAsLong}
+use Rattle.law_picks.specs.Bench.{set-up, answers, full-house, last-position, last-number, WaitsAsLong}
 use Rattle.law_picks.proofs.Kept.{pick-keeps-orderly, pick-keeps-standing}
-
--- the desk bench's picks
-pub desk-bench : DeskBench
-unfolding set-up with-members picks preferred chosen-below chosen-job accumulated-after turn-given picked set-each ready
-desk-bench = refl
 
 -- picks with nothing between them are a stretch for any job that stands at the first
 pub picks-alone : (n j g k : ℕ) (p : List ℕ) → Orderly p → Stands n j g p → Stretch n j g p (answers k p)

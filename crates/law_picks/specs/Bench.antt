@@ -1,7 +1,6 @@
--- Document 01, "Desk bench examples": "Positions 0, 1, 2 ready at 32, 64, 127, all accumulated 0: picks 0, 2, 1, 2, 0, 1, 2, 0", whose picture is
--- set up by hand. And a full house, in which a job waits as long as demand 3 lets it.
+-- Pictures of ready jobs that are set up by hand, as the desk bench's picks want one (rule 122), and a full house, in which a job waits as long as
+-- demand 3 lets it. That they are sound is a row of the desk bench's table (law_bench/specs/Table.antt).
 use Prim.Native.Nat.{ℕ, zero, suc, _+_, _-_, _*_, _/_, _^_}
-use mathlib.Core.Path.{_≡_}
 use mathlib.Core.List.{List, [], _∷_, _++_, List·Memᴰ}
 use lib.ListN.{length, replicate}
 use Rattle.picture.specs.Layout.{nobody, positions, width, heap-base}
@@ -9,7 +8,7 @@ use Rattle.picture.specs.Records.{with-members}
 use Rattle.picture.specs.Numbers.{number-of}
 use Rattle.picture.specs.declared.Table.the-variants.{Jobs, Channels}
 use Rattle.picture.specs.Layout.{greatest-priority}
-use Rattle.turns.specs.Pick.{chosen-job, picked, picked-number}
+use Rattle.turns.specs.Pick.{picked, picked-number}
 use Rattle.law_picks.specs.Stretch.{Stretch, pick-bound}
 
 -- the picture's size and its heap, as in the session's first picture
@@ -53,18 +52,10 @@ set-up g l = with-members
     Jobs
     (2 ^ (1 + length l) - 1)
 
--- n picks in a row: the positions picked, and the numbers answered
-unfoldable pub picks : ℕ → List ℕ → List ℕ
-picks zero p = []
-picks (suc n) p = chosen-job p ∷ picks n (picked p)
-
+-- the numbers that n picks in a row answer
 unfoldable pub answers : ℕ → List ℕ → List ℕ
 answers zero p = []
 answers (suc n) p = picked-number p ∷ answers n (picked p)
-
--- positions 0, 1, 2 ready at 32, 64, 127
-abbrev pub DeskBench : Type 0
-DeskBench = picks 8 (set-up 32 (64 ∷ 127 ∷ [])) ≡ 0 ∷ 2 ∷ 1 ∷ 2 ∷ 0 ∷ 1 ∷ 2 ∷ 0 ∷ []
 
 -- every position taken: the last job ready at priority g, all others at the greatest
 abbrev pub full-house : ℕ → List ℕ

@@ -1,4 +1,5 @@
 -- What placing a block leaves, and which free block is the longest.
+pub mod Rule
 pub mod Longest
 pub mod Written
 pub mod Placed

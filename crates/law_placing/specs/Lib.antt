@@ -1,1 +1,2 @@
--- The laws stand in proofs/: this crate has no definitions.
+-- What the laws say of placing, in words.
+pub mod Rule

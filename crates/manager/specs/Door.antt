@@ -1,4 +1,4 @@
--- Document 01: "Order: registers not 8 (-15 is answered, nothing written), picture, nobody current,
+-- Document 01 (rules 64 to 66): "Order: registers not 8 (-15 is answered, nothing written), picture, nobody current,
 -- unknown trap or call (all 32 bits of D0 count), then as listed per call. A refusal writes D0 only; success sets D0 to 0."
 use Prim.Native.Nat.{ℕ}
 use mathlib.Core.Bool.{not, cond}

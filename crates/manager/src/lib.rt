@@ -51,7 +51,8 @@ pub fn fresh(p: &mut [u32], n: u32, h: u32) -> i32
 pub fn pick(p: &mut [u32]) -> Picked
     ensures { λ r. ⌜ (r ≡ pickAnswer (now (p .entry))) × (now (p .exit) ≡ pickPicture (now (p .entry))) ⌝ }
 {
-    if !sound::is_sound(p) {
+    let may_pick = sound::is_sound(p);
+    if !may_pick {
         return Picked {
             number: picture::NOBODY,
             key: picture::NOT_SOUND,
@@ -64,7 +65,8 @@ pub fn pick(p: &mut [u32]) -> Picked
 pub fn tick(p: &mut [u32]) -> i32
     ensures { λ r. ⌜ (r ≡ tickKey (now (p .entry))) × (now (p .exit) ≡ ticking (now (p .entry))) ⌝ }
 {
-    if !sound::is_sound(p) {
+    let may_tick = sound::is_sound(p);
+    if !may_tick {
         return picture::NOT_SOUND;
     }
     turns::tick_frame(p);

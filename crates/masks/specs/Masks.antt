@@ -26,7 +26,7 @@ unfoldable pub mask : (ℕ → Bool) → ℕ → ℕ
 mask f zero = 0
 mask f (suc n) = cond (f n) (with-bit (mask f n) n) (mask f n)
 
--- rule 71: the lowest position below n that isn't in m, n where all are
+-- rule 71: the lowest position below n that isn't in m, n where all are: in plain words `Lowest`, by `lowest-clear-is` (masks/proofs/Lowest.antt)
 unfoldable pub lowest-clear : ℕ → ℕ → ℕ
 lowest-clear zero m = 0
 lowest-clear (suc n) m = cond (eqb (m % 2) 0) 0 (suc (lowest-clear n (m / 2)))

@@ -1,5 +1,5 @@
 -- Document 01 (rule 97): "Placing takes the low end of the lowest free block whose length is enough; the rest stays free; room is cleared."
--- An area is the longwords from base up to e.
+-- An area is the longwords from base up to e. In plain words: `placed-at-the-lowest` (law_placing/proofs/Rule.antt).
 use Prim.Native.Nat.{ℕ, _+_, _-_, _/_}
 use mathlib.Core.Path.{_≡_}
 use mathlib.Core.Bool.{Bool, _&&_, cond}
@@ -54,6 +54,7 @@ abbrev pub longest-of : List ℕ → ℕ → List ℕ → ℕ
 longest-of p b [] = b
 longest-of p b (i ∷ l) = longest-of p (longer p b i) l
 
--- rule 82: the length of the longest free block of an area, 0 for none
+-- rule 82: the length of the longest free block of an area, 0 for none: in plain words `no-free-block-is-longer` and `the-longest-is-a-free-block`
+-- (law_placing/proofs/Longest.antt)
 unfoldable pub longest : List ℕ → ℕ → ℕ → ℕ
 longest p base e = longest-of p 0 (starts p base e)

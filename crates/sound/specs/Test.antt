@@ -1,4 +1,5 @@
--- What the test computes: the same rules in one pass over each table and one walk of each area. It equals `sound` (rule 16).
+-- Needs no belief: `tested-is` (sound/proofs/Fused.antt) makes it equal to `sound` (rule 16).
+-- What the test computes: the same rules in one pass over each table and one walk of each area.
 use Prim.Native.Nat.{ℕ}
 use mathlib.Core.Bool.{Bool, false, _&&_}
 use mathlib.Core.List.{List}

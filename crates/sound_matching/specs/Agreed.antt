@@ -1,3 +1,4 @@
+-- Needs no belief: the test of which it is a part is equal to `sound`, by `tested-is` (sound/proofs/Fused.antt).
 -- What the test for soundness looks at: a block agrees with some entry. Where there are as many blocks of the kind as entries, that is: they match one to one.
 use Prim.Native.Nat.{ℕ, _*_, _/_, _%_}
 use mathlib.Core.Bool.{Bool, _&&_, not}

@@ -1,3 +1,4 @@
+-- Needs no belief: the test of which it is a part is equal to `sound`, by `tested-is` (sound/proofs/Fused.antt).
 -- What the test for soundness computes of an area: every block keeps its rules, and how many blocks are of the table's kind.
 use Prim.Native.Nat.{ℕ}
 use mathlib.Core.Bool.{Bool, _&&_, cond}

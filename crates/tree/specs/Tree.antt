@@ -19,6 +19,6 @@ climbs (suc n) p t k = eqb k t || (not (eqb (owner p Jobs k) nobody) && climbs n
 unfoldable pub in-tree : List ℕ → ℕ → ℕ → Bool
 in-tree p t k = used p Jobs k && climbs (positions Jobs) p t k
 
--- the positions of the tree of the job at position t
+-- the positions of the tree of the job at position t: in plain words `Under` (law_owners/specs/Under.antt), by `tree-says` and `tree-has` (law_owners/proofs/Members.antt)
 unfoldable pub tree : List ℕ → ℕ → ℕ
 tree p t = mask (in-tree p t) (positions Jobs)

@@ -23,7 +23,8 @@ unfoldable pub chosen-below : List ℕ → ℕ → ℕ
 chosen-below p zero = positions Jobs
 chosen-below p (suc n) = preferred p (chosen-below p n) n
 
--- the position of the job picked, the number of positions for nobody
+-- the position of the job picked, the number of positions for nobody: in plain words `Chosen` (law_picks/specs/Stretch.antt),
+-- by `chosen-is-who-the-rule-picks` (law_picks/proofs/Rule.antt)
 unfoldable pub chosen-job : List ℕ → ℕ
 chosen-job p = chosen-below p (positions Jobs)
 
