@@ -27,8 +27,7 @@ use Rattle.manager.specs.Door.{checked, with-key, called}
 use Rattle.manager.specs.Turn.{pick-picture, ticking}
 use Rattle.law_turns.proofs.Pick.{pick-ages}
 use Rattle.law_turns.proofs.Tick.{tick-ages}
-use Rattle.law_promises.specs.History.{Event, trap, pick, tick, after, run, AlwaysSound, DeadStaysDead, LastTagNeverFalls, EndingTakesNoMore}
-use Rattle.law_ending.proofs.Promise.{ending-leaves-others, ending-takes-the-tree}
+use Rattle.law_promises.specs.History.{Event, trap, pick, tick, after, run, AlwaysSound, DeadStaysDead, LastTagNeverFalls}
 use Rattle.law_promises.proofs.Calls.{EachCall, each-call}
 use Rattle.law_promises.proofs.Door.{checked-by, call-keeps-sound, pick-keeps, tick-keeps}
 use Rattle.law_jobs.proofs.Kept.{information-ages, suspend-ages, release-ages, activate-ages, set-priority-ages}
@@ -127,8 +126,3 @@ dead-stays-dead n h g t number first then later l d =
     let y = run-ages then a s t .rises in
     let w : live b t number ≡ false = rw (run-then first then f) at d in
     rw (run-then first (then ++ later) f, run-then then later a) (stays-dead b (run later b) t number (run-ages later b u t) (omega arith) w)
-
-pub ending-takes-no-more : EndingTakesNoMore
-ending-takes-no-more n h g events t key u z =
-    let s = always-sound n h g events in
-    (ending-leaves-others (run events (fresh n h)) t key s u z, ending-takes-the-tree (run events (fresh n h)) t key s u z)

@@ -2,6 +2,8 @@
 pub mod Calls
 pub mod Door
 pub mod History
+pub mod Done
+pub mod Ending
 pub mod CallsQuiet
 pub mod TablesQuiet
 pub mod Quiet
