@@ -136,7 +136,7 @@ module _ (p : List ℕ) (S : Sound p) (t key : ℕ) (top : used p Jobs t ≡ tru
           let z = h .1 .1 .place in
           n (inr (omega arith))
 
-  top-is-in-the-transient-area : (i : ℕ) → In i (blocks p Heap) → base p Jobs t ≡ 4 * i → ⊥
+  pub top-is-in-the-transient-area : (i : ℕ) → In i (blocks p Heap) → base p Jobs t ≡ 4 * i → ⊥
   top-is-in-the-transient-area i m e =
       let h = S .matched Jobs .home t (used-below p Jobs t top) top-has-block in
       let z = h .1 .1 .place in

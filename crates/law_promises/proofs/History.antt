@@ -7,6 +7,7 @@ use native.Mathlib.Omega.{arith}
 use lib.ListN.{length}
 use lib.Dec.{eqb}
 use Rattle.words.specs.Words.{word}
+use Rattle.words.proofs.Tests.{false-true}
 use Rattle.picture.specs.Layout.{last-word, positions}
 use Rattle.picture.specs.Records.{number, used}
 use Rattle.picture.specs.Numbers.{tag, position, live}
@@ -73,8 +74,8 @@ checked-ages n p d name s = checked-by n p d name (Aged p) (ages-still p) (ages-
   opens = open-channel-ages p d name s;
   closes = close-channel-ages p d s;
   pends = pending-ages p d s;
-  fetches = fetch-ages p d s;
-  sends = send-ages p d s;
+  fetches = λ _ _. fetch-ages p d s;
+  sends = λ _ _. send-ages p d s;
   refuses = ages-still p;
 }))
 
@@ -105,7 +106,7 @@ run-then [] then p = refl
 run-then (e ∷ first) then p = run-then first then (after e p)
 
 -- a live number's tag was given
-given : (p : List ℕ) → sound p ≡ true → (t : Table) (n : ℕ) → live p t n ≡ true → tag n ≤ word p (last-word t)
+pub given : (p : List ℕ) → sound p ≡ true → (t : Table) (n : ℕ) → live p t n ≡ true → tag n ≤ word p (last-word t)
 given p s t n l =
     let L = live-is p t n l in
     let E = entries t in
@@ -126,3 +127,14 @@ dead-stays-dead n h g t number first then later l d =
     let y = run-ages then a s t .rises in
     let w : live b t number ≡ false = rw (run-then first then f) at d in
     rw (run-then first (then ++ later) f, run-then then later a) (stays-dead b (run later b) t number (run-ages later b u t) (omega arith) w)
+
+-- a number that is live at both ends of a history is live after its first event
+pub live-after-the-first : (e : Event) (events : List Event) (p : List ℕ) → sound p ≡ true → (t : Table) (n : ℕ) → live p t n ≡ true → live (run events (after e p)) t n ≡ true → live (after e p) t n ≡ true
+live-after-the-first e events p s t n l m = go (live (after e p) t n) refl
+  where
+    go : (b : Bool) → live (after e p) t n ≡ b → b ≡ true
+    go true a = refl
+    go false a =
+        let x = given p s t n l in
+        let y = event-ages e p s t .rises in
+        absurd (false-true (sym (stays-dead (after e p) (run events (after e p)) t n (run-ages events (after e p) (event-keeps-sound e p s) t) (omega arith) a) ∙ m))
