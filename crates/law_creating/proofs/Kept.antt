@@ -154,7 +154,7 @@ module _ (p d : List ℕ) (h : sound p ≡ true) (c : Checked p d) where
   channel-mask : members q Channels ≡ members p Channels
   channel-mask = other-table-mask p q Jobs k (next-tag p Jobs) o (header-byte at) E there vacant Channels no-job
 
-  channel-field : (j f : ℕ) → j < positions Channels → f < width Channels → field q Channels j f ≡ field p Channels j f
+  pub channel-field : (j f : ℕ) → j < positions Channels → f < width Channels → field q Channels j f ≡ field p Channels j f
   channel-field = other-table-field p q Jobs k (next-tag p Jobs) o (header-byte at) E there vacant Channels no-job
 
   channels : Channels-fine q

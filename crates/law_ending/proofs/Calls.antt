@@ -1,6 +1,6 @@
 -- $4 and $5: a sound picture stays sound, and tags rise.
 use Prim.Native.Nat.{ℕ, _≤_}
-use mathlib.Core.Path.{_≡_}
+use mathlib.Core.Path.{_≡_, sym, _∙_, subst}
 use mathlib.Core.Bool.{true}
 use mathlib.Core.Logic.{inl}
 use mathlib.Core.List.{List, []}
@@ -9,8 +9,10 @@ use native.Mathlib.Omega.{arith}
 use lib.Dec.{eqb}
 use borrow.Author.Tests.{eqb-false, not-true}
 use Rattle.words.specs.Words.{word}
+use Rattle.picture.specs.Keys.{done}
 use Rattle.picture.specs.Layout.{last-word}
 use Rattle.picture.specs.Records.{used}
+use Rattle.picture.specs.Numbers.{position, live, job-at}
 use Rattle.picture.specs.declared.Table.{Table}
 use Rattle.picture.specs.declared.Table.the-variants.{Jobs, Channels}
 use Rattle.picture.proofs.Numbers.{live-is}
@@ -22,8 +24,8 @@ use Rattle.calls.specs.Found.{job-position}
 use Rattle.calls.specs.Outcome.{Outcome, refuse, succeed}
 use Rattle.calls.specs.Call.{Check, outcome}
 use Rattle.calls.specs.Registers.{D1, D3, cleared, meant}
-use Rattle.calls.proofs.Call.{of-each-way}
-use Rattle.calls.proofs.Found.{job-stands, job-that-passes-is-live}
+use Rattle.calls.proofs.Call.{Never, of-each-way, where-all-pass, done-only-where-all-pass, not-complete-refuses, invalid-job-refuses, bad-parameter-refuses}
+use Rattle.calls.proofs.Found.{job-stands, job-that-passes-is-live, job-check-gives-no-other}
 use Rattle.tree.specs.Tree.{tree}
 use Rattle.emptying.specs.Taken.{channels-of}
 use Rattle.ending.specs.Ended.{ended}
@@ -48,6 +50,26 @@ module _ (p d : List ℕ) (P : Outcome → Type 0) (refused : (k : ℤ) → P (r
   pub of-force-remove : P (outcome force-remove p d)
   unfolding force-remove outcome
   of-force-remove = of-removal []
+
+-- of the call that answers 0, what it does is enough
+module _ (p d : List ℕ) (P : Outcome → Type 0)
+    (ends : live p Jobs (meant p (D1 d)) ≡ true → (position (meant p (D1 d)) ≡ 0 → ⊥) → P (succeed (ended p (position (meant p (D1 d))) (D3 d)) (cleared d))) where
+  removal-where-done : (still : List Check) → Never done still → outcome (removal still) p d .key ≡ done → P (outcome (removal still) p d)
+  unfolding removal
+  removal-where-done still n e =
+      let never : Never done (removal still p d .checks) = (job-check-gives-no-other done (job-at p (meant p (D1 d))) invalid-job-refuses, ((λ _ z. bad-parameter-refuses z), n)) in
+      let h = done-only-where-all-pass (removal still) p d never e in
+      let l = job-that-passes-is-live p (meant p (D1 d)) (h .0) in
+      let z = job-stands p (meant p (D1 d)) l in
+      subst P (sym (where-all-pass (removal still) p d h)) (rw z (ends l (λ x. eqb-false (job-position p d) 0 (not-true (eqb (job-position p d) 0) (h .1 .0)) (z ∙ x))))
+
+  pub remove-where-done : outcome remove p d .key ≡ done → P (outcome remove p d)
+  unfolding remove outcome
+  remove-where-done = removal-where-done _ ((λ _ z. not-complete-refuses z), tt)
+
+  pub force-remove-where-done : outcome force-remove p d .key ≡ done → P (outcome force-remove p d)
+  unfolding force-remove outcome
+  force-remove-where-done = removal-where-done [] tt
 
 module _ (p d : List ℕ) where
   -- a sound picture stays sound

@@ -9,10 +9,11 @@ use native.Mathlib.Omega.{arith}
 use borrow.Author.Tests.{eq-eqb, ne-eqb, eqb-true, le-leb, not-true}
 use Rattle.words.specs.Words.{word}
 use Rattle.words.specs.Bits.{bit}
-use Rattle.words.specs.Each.{In}
+use Rattle.words.specs.Each.{any, In}
 use Rattle.words.proofs.Tests.{both, false-true, lt-or-ge}
-use Rattle.picture.specs.Layout.{nobody, positions, width, heap-base, from, upto, size-word, heap-word}
-use Rattle.picture.specs.Records.{field, number, owner, base, waited-for, delivered, used, owner-field, timeout-field, wait-field, key-field}
+use Rattle.words.proofs.Each.{any-some, some-any, total-same}
+use Rattle.picture.specs.Layout.{nobody, last-word, positions, width, from, upto, size-word, heap-word}
+use Rattle.picture.specs.Records.{field, number, owner, base, waited-for, delivered, used, number-field, owner-field, base-field, timeout-field, wait-field, key-field}
 use Rattle.picture.specs.Numbers.{position, live}
 use Rattle.picture.specs.declared.Table.{Table}
 use Rattle.picture.specs.declared.Table.the-variants.{Jobs, Channels}
@@ -21,8 +22,8 @@ use Rattle.picture.specs.declared.Area.the-variants.{Heap, Transient}
 use Rattle.picture.proofs.Records.{used-below}
 use Rattle.picture.proofs.Numbers.{live-is, is-live}
 use Rattle.picture.proofs.Timeout.{timeout-zero}
-use Rattle.picture.proofs.Members.{spares-size, spares-heap}
-use Rattle.blocks.specs.Header.{holder-field, size, kind, free, holder, job-kind}
+use Rattle.picture.proofs.Members.{spares-size, spares-heap, spares-last}
+use Rattle.blocks.specs.Header.{kind-field, holder-field, size, kind, free, holder}
 use Rattle.blocks.specs.Walk.{starts, blocks}
 use Rattle.blocks.proofs.Starts.{starts-in}
 use Rattle.law_areas.specs.Area.{free-bytes}
@@ -33,7 +34,8 @@ use Rattle.sound.specs.Sound.{sound}
 use Rattle.sound_facts.proofs.Sound.{Sound}
 use Rattle.sound_facts.proofs.View.{view}
 use Rattle.freeing.specs.Sweep.{named, goes}
-use Rattle.law_freeing.proofs.Swept.{given-bytes}
+use Rattle.law_freeing.proofs.Goes.{goes-used, a-block-owned-by-the-set-goes}
+use Rattle.law_freeing.proofs.Swept.{given-size, given-bytes}
 use Rattle.tree.specs.Tree.{tree}
 use Rattle.law_owners.specs.Under.{Under}
 use Rattle.masks.proofs.Masks.{mask-bit}
@@ -41,11 +43,12 @@ use Rattle.law_owners.proofs.Owners.{Owners, owners-of}
 use Rattle.law_owners.proofs.Members.{tree-says, tree-has, tree-unowned}
 use Rattle.emptying.specs.Taken.{waits, channel-goes, channels-of}
 use Rattle.ending.specs.Ended.{no-block, ended}
-use Rattle.law_ending.specs.Promise.{Member, Woken, Leaves, Takes}
+use Rattle.law_ending.specs.Promise.{Member, Woken, Leaves, Gone, OldEntry, OfTheTree, OldBlock, Free, in-use-at, gone-size, gone-bytes, Takes}
 use Rattle.law_ending.proofs.Taken.{going, Taken}
 use Rattle.law_ending.proofs.Areas.{Kept, extra}
-use Rattle.law_ending.proofs.Owned.{named-is, is-named, not-named, otherwise, owner-outside, a-member-is-named, a-live-number-named-is-a-member}
-use Rattle.law_ending.proofs.Sound.{not-going, ended-tables, ended-area}
+use Rattle.law_ending.proofs.Lie.{Lies, each-longword-lies-in-a-block, no-longword-lies-in-two-blocks}
+use Rattle.law_ending.proofs.Owned.{named-is, otherwise, a-member-is-named, a-live-number-named-is-a-member}
+use Rattle.law_ending.proofs.Sound.{ended-tables, ended-area}
 
 module _ (p : List ℕ) (S : Sound p) (t key : ℕ) (top : used p Jobs t ≡ true) (other : t ≡ 0 → ⊥) where
   O : Owners p
@@ -66,6 +69,11 @@ module _ (p : List ℕ) (S : Sound p) (t key : ℕ) (top : used p Jobs t ≡ tru
 
   named-member : (n : ℕ) → live p Jobs n ≡ true → named (tree p t) n ≡ true → Member p t n
   named-member = a-live-number-named-is-a-member p S t
+
+  -- a test that cannot fail
+  passes : (b : Bool) → (b ≡ false → ⊥) → b ≡ true
+  passes true n = refl
+  passes false n = absurd (n refl)
 
   -- a channel's bit
   channel-bit : (k : ℕ) → used p Channels k ≡ true → bit (channels-of p (tree p t)) k ≡ named (tree p t) (owner p Channels k)
@@ -117,16 +125,24 @@ module _ (p : List ℕ) (S : Sound p) (t key : ℕ) (top : used p Jobs t ≡ tru
   unfolding has-block
   top-has-block = rw (le-leb 1 t (omega arith), top)
 
-  spared : (r : Area) (i : ℕ) → In i (blocks p r) → free p i ≡ false → (Member p t (holder p i) → ⊥) → (base p Jobs t ≡ 4 * i → ⊥) → goes p (tree p t) (extra (base p Jobs t / 4) r) i ≡ false
+  spared : (r : Area) (i : ℕ) → In i (blocks p r) → free p i ≡ false → (OfTheTree p t i → ⊥) → goes p (tree p t) (extra (base p Jobs t / 4) r) i ≡ false
   unfolding goes
-  spared r i m u n b = rw (u, ne-eqb i (extra (base p Jobs t / 4) r) (not-extra r m), otherwise (named (tree p t) (holder p i)) (λ h. n (holder-member r i m u h)))
+  spared r i m u n = rw (u, ne-eqb i (extra (base p Jobs t / 4) r) (not-extra r m), otherwise (named (tree p t) (holder p i)) (λ h. n (inl (holder-member r i m u h))))
     where
       not-extra : (r : Area) → In i (blocks p r) → i ≡ extra (base p Jobs t / 4) r → ⊥
       not-extra Heap m e = let w = starts-in p (from p Heap) (upto p Heap) i m .0 in omega arith
       not-extra Transient m e =
           let h = S .matched Jobs .home t (used-below p Jobs t top) top-has-block in
           let z = h .1 .1 .place in
-          b (omega arith)
+          n (inr (omega arith))
+
+  pub top-is-in-the-transient-area : (i : ℕ) → In i (blocks p Heap) → base p Jobs t ≡ 4 * i → ⊥
+  top-is-in-the-transient-area i m e =
+      let h = S .matched Jobs .home t (used-below p Jobs t top) top-has-block in
+      let z = h .1 .1 .place in
+      let x = starts-in p (from p Transient) (upto p Transient) (h .0) (h .1 .0) .0 in
+      let y = starts-in p (from p Heap) (upto p Heap) i m .1 in
+      omega arith
 
   same-from : (r : Area) → from (ended p t key) r ≡ from p r
   same-from Heap = refl
@@ -135,6 +151,10 @@ module _ (p : List ℕ) (S : Sound p) (t key : ℕ) (top : used p Jobs t ≡ tru
   same-upto : (r : Area) → upto (ended p t key) r ≡ upto p r
   same-upto Heap = rw (T .head heap-word (omega arith) (λ z. omega arith) (λ t. spares-heap t))
   same-upto Transient = T .head size-word (omega arith) (λ z. omega arith) (λ t. spares-size t)
+
+  same-last : (s : Table) → word (ended p t key) (last-word s) ≡ word p (last-word s)
+  same-last Jobs = T .head (last-word Jobs) (omega arith) (λ z. omega arith) (λ t. spares-last t Jobs)
+  same-last Channels = T .head (last-word Channels) (omega arith) (λ z. omega arith) (λ t. spares-last t Channels)
 
   -- a field of a job outside the tree that waits for none of it
   job-field : (k f : ℕ) → used p Jobs k ≡ true → bit (tree p t) k ≡ false → waits p (tree p t) k ≡ false → f < width Jobs → field (ended p t key) Jobs k f ≡ field p Jobs k f
@@ -155,13 +175,6 @@ module _ (p : List ℕ) (S : Sound p) (t key : ℕ) (top : used p Jobs t ≡ tru
   unfolding goes
   top-goes i u e = let z : i ≡ base p Jobs t / 4 = omega arith in rw (u, eq-eqb i (base p Jobs t / 4) z)
 
-  no-entry : (s : Table) (k : ℕ) → used (ended p t key) s k ≡ true → Member p t (owner (ended p t key) s k) → ⊥
-  no-entry s k u M =
-      let b : bit (going (tree p t) (channels-of p (tree p t)) s) k ≡ false = otherwise _ (λ h. false-true (sym (T .dies s k h) ∙ u)) in
-      let v : used p s k ≡ true = sym (T .stays s k b) ∙ u in
-      let N : Member p t (owner p s k) = subst (Member p t) (T .same s k owner-field (used-below p s k v) (omega arith) b) M in
-      false-true (sym (owner-outside p S t s k v b (N .lives)) ∙ member-named (owner p s k) N)
-
   leaves : Leaves p (ended p t key) t key
   leaves = record {
     jobs-stay = λ k u n. T .stays Jobs k (outside k u n) ∙ u;
@@ -174,43 +187,121 @@ module _ (p : List ℕ) (S : Sound p) (t key : ℕ) (top : used p Jobs t ≡ tru
         let l = used-below p Jobs k u in
         record { frames = timeout-zero (ended p t key) k (T .frames k l b ∙ rw w); wait = T .wait k l b ∙ rw w; gets = T .gets k l b ∙ rw w };
     others = λ k f u n N h. job-field k f u (outside k u n) (waits-not k u N) h;
-    blocks-stay = λ r i m u n b. rw (same-from r, same-upto r) (K r .stays i m u (spared r i m u n b));
-    block-longwords = λ r i m u n b. K r .keeps i m u (spared r i m u n b);
+    blocks-stay = λ r i m u n. rw (same-from r, same-upto r) (K r .stays i m u (spared r i m u n));
+    block-longwords = λ r i m u n. K r .keeps i m u (spared r i m u n);
     rooms = λ r i m. K r .rooms i m;
+    tags = same-last;
+    begins = same-from;
+    ends = same-upto;
   }
+
+  -- an entry of p goes or stays by its bit
+  gone : (s : Table) (k : ℕ) → k < positions s → bit (going (tree p t) (channels-of p (tree p t)) s) k ≡ true → Gone (ended p t key) s k
+  gone s k l b = record { unused = T .dies s k b; zero = λ f h. T .blank s k f l h b }
+
+  member-channel : (k : ℕ) → used p Channels k ≡ true → Member p t (owner p Channels k) → bit (channels-of p (tree p t)) k ≡ true
+  member-channel k u M = channel-bit k u ∙ member-named (owner p Channels k) M
+
+  old-entry : (s : Table) (k : ℕ) → used (ended p t key) s k ≡ true → OldEntry p (ended p t key) s k
+  old-entry s k u =
+      let b : bit (going (tree p t) (channels-of p (tree p t)) s) k ≡ false = otherwise _ (λ h. false-true (sym (T .dies s k h) ∙ u)) in
+      let v : used p s k ≡ true = sym (T .stays s k b) ∙ u in
+      let l = used-below p s k v in
+      record { was-used = v; same-number = T .same s k number-field l (omega arith) b; same-owner = T .same s k owner-field l (omega arith) b; same-base = T .same s k base-field l (omega arith) b }
+
+  -- a block in use afterwards
+  old : (r : Area) (i : ℕ) → In i (blocks (ended p t key) r) → free (ended p t key) i ≡ false → In i (blocks p r) × ((free p i ≡ false) × (goes p (tree p t) (extra (base p Jobs t / 4) r) i ≡ false))
+  old r i m u = K r .only i (rw (same-from r, same-upto r) at m) u
+
+  -- a block of the tree
+  of-the-tree-goes : (r : Area) (i : ℕ) → In i (blocks p r) → free p i ≡ false → OfTheTree p t i → goes p (tree p t) (extra (base p Jobs t / 4) r) i ≡ true
+  of-the-tree-goes r i m u (inl M) = a-block-owned-by-the-set-goes p (tree p t) (extra (base p Jobs t / 4) r) i u (member-named (holder p i) M)
+  of-the-tree-goes Heap i m u (inr e) = absurd (top-is-in-the-transient-area i m e)
+  of-the-tree-goes Transient i m u (inr e) = top-goes i u e
+
+  old-block : (r : Area) (i : ℕ) → In i (blocks (ended p t key) r) → free (ended p t key) i ≡ false → OldBlock p (ended p t key) t r i
+  old-block r i m u =
+      let o = old r i m u in
+      let B = block-of p (from p r) (upto p r) (S .tiled r .whole) i (o .0) in
+      let l = B .least in
+      let keeps = K r .keeps i (o .0) (o .1 .0) (o .1 .1) in
+      record {
+        was-there = o .0;
+        was-used = o .1 .0;
+        outside = λ g. false-true (sym (o .1 .1) ∙ of-the-tree-goes r i (o .0) (o .1 .0) g);
+        same-length = keeps i (omega arith) (omega arith);
+        same-kind = keeps (i + kind-field) (omega arith) (omega arith);
+        same-owner = keeps (i + holder-field) (omega arith) (omega arith);
+        same-longwords = keeps;
+      }
+
+  -- each longword of a block that goes lies in a block of q, and in none that is in use
+  freed : (r : Area) (i : ℕ) → In i (blocks p r) → free p i ≡ false → OfTheTree p t i → (k : ℕ) → i ≤ k → k < i + size p i / 4 → Free (ended p t key) r k
+  freed r i m u g k lo hi =
+      let B = block-of p (from p r) (upto p r) (S .tiled r .whole) i m in
+      let a = B .low in
+      let b = B .high in
+      let c = each-longword-lies-in-a-block (ended p t key) (from p r) (upto p r) k (K r .tiled) (omega arith) (omega arith) in
+      let there : In (c .0) (blocks (ended p t key) r) = rw (same-from r, same-upto r) (c .1 .0) in
+      record {
+        block = c .0;
+        there = there;
+        is-free = passes (free (ended p t key) (c .0)) (λ f. clash (c .0) there f (c .1 .1));
+        after = c .1 .1 .0;
+        before = c .1 .1 .1;
+      }
+    where
+      clash : (j : ℕ) → In j (blocks (ended p t key) r) → free (ended p t key) j ≡ false → Lies (ended p t key) j k → ⊥
+      clash j n f w =
+          let o = old-block r j n f in
+          let e = no-longword-lies-in-two-blocks p (from p r) (upto p r) i j k (S .tiled r .whole) m (o .was-there) (lo, hi) (w .0, rw (o .same-length) at (w .1)) in
+          o .outside (subst (OfTheTree p t) e g)
+
+  -- a block is gone exactly where it goes
+  gone-is-given : (r : Area) (i : ℕ) → In i (blocks p r) → gone-size p (ended p t key) r i ≡ given-size p (tree p t) (extra (base p Jobs t / 4) r) i
+  gone-is-given r i m = go (free p i) (goes p (tree p t) (extra (base p Jobs t / 4) r) i) refl refl
+    where
+      stands : free p i ≡ false → goes p (tree p t) (extra (base p Jobs t / 4) r) i ≡ false → in-use-at (ended p t key) r i ≡ true
+      stands u g =
+          let n : In i (blocks (ended p t key) r) = rw (same-from r, same-upto r) (K r .stays i m u g) in
+          let B = block-of p (from p r) (upto p r) (S .tiled r .whole) i m in
+          let l = B .least in
+          let f : free (ended p t key) i ≡ false = rw (K r .keeps i m u g (i + kind-field) (omega arith) (omega arith)) u in
+          rw (some-any (eqb i) (blocks (ended p t key) r) i n (eq-eqb i i refl), f)
+
+      gone-there : goes p (tree p t) (extra (base p Jobs t / 4) r) i ≡ true → in-use-at (ended p t key) r i ≡ false
+      gone-there g = otherwise (in-use-at (ended p t key) r i) (λ h.
+          let x = both (any (eqb i) (blocks (ended p t key) r)) (not (free (ended p t key) i)) h in
+          let s = any-some (eqb i) (blocks (ended p t key) r) (x .0) in
+          let n : In i (blocks (ended p t key) r) = subst (λ (j : ℕ). In j (blocks (ended p t key) r)) (sym (eqb-true i (s .0) (s .1 .1))) (s .1 .0) in
+          false-true (sym (old r i n (not-true (free (ended p t key) i) (x .1)) .1 .1) ∙ g))
+
+      go : (f g : Bool) → free p i ≡ f → goes p (tree p t) (extra (base p Jobs t / 4) r) i ≡ g
+          → cond (not f && not (in-use-at (ended p t key) r i)) (size p i) 0 ≡ cond g (size p i) 0
+      go true true u g = absurd (false-true (sym (goes-used p (tree p t) (extra (base p Jobs t / 4) r) i g) ∙ u))
+      go true false u g = refl
+      go false true u g = rw (gone-there g)
+      go false false u g = rw (stands u g)
+
+  more-free : (r : Area) → free-bytes (ended p t key) (from (ended p t key) r) (upto (ended p t key) r) ≡ free-bytes p (from p r) (upto p r) + gone-bytes p (ended p t key) r
+  more-free r = rw (same-from r, same-upto r) (K r .more-free)
+      ∙ ap (λ (n : ℕ). free-bytes p (from p r) (upto p r) + n) (sym (total-same (gone-size p (ended p t key) r) (given-size p (tree p t) (extra (base p Jobs t / 4) r)) (blocks p r) (gone-is-given r)))
 
   takes : Takes p (ended p t key) t
   takes = record {
-    members = λ k u w. T .dies Jobs k (tree-has p O t k u w);
-    records = λ k f u w h. T .blank Jobs k f (used-below p Jobs k u) h (tree-has p O t k u w);
-    entries = no-entry;
-    owned-blocks = λ r i m u M.
-        let o = old r i m u in
-        let e = held r i m u in
-        false-true (sym (not-going p (tree p t) (extra (base p Jobs t / 4) r) i (o .1 .0) (o .1 .1)) ∙ member-named (holder p i) (subst (Member p t) e M));
-    top = λ i m u e. let o = old Transient i m u in false-true (sym (o .1 .1) ∙ top-goes i (o .1 .0) e);
+    jobs = λ k u w. gone Jobs k (used-below p Jobs k u) (tree-has p O t k u w);
+    channels = λ k u M. gone Channels k (used-below p Channels k u) (member-channel k u M);
+    freed = freed;
+    old-entries = old-entry;
+    old-blocks = old-block;
+    bytes = more-free;
     current = T .current;
   }
-    where
-      old : (r : Area) (i : ℕ) → In i (blocks (ended p t key) r) → free (ended p t key) i ≡ false → In i (starts p (from p r) (upto p r)) × ((free p i ≡ false) × (goes p (tree p t) (extra (base p Jobs t / 4) r) i ≡ false))
-      old r i m u = K r .only i (rw (same-from r, same-upto r) at m) u
-
-      held : (r : Area) (i : ℕ) → In i (blocks (ended p t key) r) → free (ended p t key) i ≡ false → holder (ended p t key) i ≡ holder p i
-      held r i m u =
-          let o = old r i m u in
-          let B = block-of p (from p r) (upto p r) (S .tiled r .whole) i (o .0) in
-          let l = B .least in
-          K r .keeps i (o .0) (o .1 .0) (o .1 .1) (i + holder-field) (omega arith) (omega arith)
 
 -- every entry and block whose owner is outside the tree is, longword for longword, what it was
 pub ending-leaves-others : (p : List ℕ) (t key : ℕ) → sound p ≡ true → used p Jobs t ≡ true → (t ≡ 0 → ⊥) → Leaves p (ended p t key) t key
 ending-leaves-others p t key s u n = leaves p (view p s) t key u n
 
--- nothing owned by the tree is left, and the current job is nobody
+-- the tree is gone with all that it owns, and nothing is new
 pub ending-takes-the-tree : (p : List ℕ) (t key : ℕ) → sound p ≡ true → used p Jobs t ≡ true → (t ≡ 0 → ⊥) → Takes p (ended p t key) t
 ending-takes-the-tree p t key s u n = takes p (view p s) t key u n
-
--- the bytes of the blocks that go are free, area by area
-pub ending-gives-bytes-back : (p : List ℕ) (t key : ℕ) → sound p ≡ true → used p Jobs t ≡ true → (t ≡ 0 → ⊥) → (r : Area)
-    → free-bytes (ended p t key) (from p r) (upto p r) ≡ free-bytes p (from p r) (upto p r) + given-bytes p (from p r) (upto p r) (tree p t) (extra (base p Jobs t / 4) r)
-ending-gives-bytes-back p t key s u n r = ended-area p (view p s) t key u n r .more-free

@@ -1,4 +1,4 @@
--- $0 and $8 to $B keep a sound picture sound, give no tag, and make nothing live.
+-- $0 and $8 to $B keep a sound picture sound, change only what turns change, give no tag, and make nothing live.
 use Prim.Native.Nat.{ℕ, _+_, _*_, _%_, _≤_, _<_}
 use mathlib.Core.Path.{_≡_, refl, sym, ap, _∙_, subst}
 use mathlib.Core.Bool.{Bool, true, false, cond, not, _&&_}
@@ -23,7 +23,7 @@ use Rattle.picture.proofs.Timeout.{timeout-same, ready-same, ready-has}
 use Rattle.sound.specs.Sound.{sound}
 use Rattle.sound_facts.proofs.Sound.{Sizes, Current, Sound}
 use Rattle.sound_facts.proofs.View.{view, sound-again}
-use Rattle.sound_facts.proofs.Ages.{Ages, ages-still}
+use Rattle.sound_facts.proofs.Ages.{Ages}
 use Rattle.timeouts.specs.Timeout.{timeout-in, timeout-of, low-half, value}
 use Rattle.timeouts.specs.declared.Timeout.{Timeout}
 use Rattle.timeouts.specs.declared.Timeout.the-variants.{Zero, Frames, Endless, Bad}
@@ -32,15 +32,15 @@ use Rattle.calls.specs.Outcome.{Outcome}
 use Rattle.calls.specs.Call.{outcome}
 use Rattle.calls.specs.Registers.{D2, D3, caller}
 use Rattle.calls.specs.Writes.{with-nobody}
-use Rattle.law_steady.proofs.Steady.{Steady, Alike, steady-ages, steady-live, steady-used, steady-then}
+use Rattle.law_steady.proofs.Steady.{Steady, Alike, steady-ages, steady-live, steady-used, steady-still, steady-then}
 use Rattle.law_steady.proofs.Writes.{Written, steady-current, written-sound, written-nobody-sound, nobody-sound}
 use Rattle.effects.specs.Effects.{suspended, released, low-byte, prioritized, may-wait, endless, waiting}
 use Rattle.jobs.specs.Calls.{job, information, suspend, release, activate, set-priority}
 use Rattle.law_jobs.proofs.Passed.{stand, suspend-ways, release-ways, activate-ways, set-priority-ways}
 use Rattle.law_jobs.proofs.Effects.{suspended-written, suspended-turning, released-written, released-turning, prioritized-written, prioritized-turning, prioritized-current, awaiting-written, awaiting-turning}
 
-nobody-ages : (p q : List ℕ) → Steady p q → (t : Table) → Ages p (with-nobody q) t
-nobody-ages p q s t = steady-ages p (with-nobody q) (steady-then p q (with-nobody q) s (steady-current q nobody)) t
+nobody-steady : (p q : List ℕ) → Steady p q → Steady p (with-nobody q)
+nobody-steady p q s = steady-then p q (with-nobody q) s (steady-current q nobody)
 
 -- a live number's position is in use
 at-used : (p : List ℕ) (n : ℕ) → live p Jobs n ≡ true → used p Jobs (position n) ≡ true
@@ -51,9 +51,12 @@ pub information-keeps-sound : (p d : List ℕ) → sound p ≡ true → sound (o
 unfolding information outcome
 information-keeps-sound p d h = h
 
-pub information-ages : (p d : List ℕ) → sound p ≡ true → (t : Table) → Ages p (outcome information p d .picture) t
+pub information-is-steady : (p d : List ℕ) → Steady p (outcome information p d .picture)
 unfolding information outcome
-information-ages p d h t = ages-still p t
+information-is-steady p d = steady-still p
+
+pub information-ages : (p d : List ℕ) → sound p ≡ true → (t : Table) → Ages p (outcome information p d .picture) t
+information-ages p d h t = steady-ages p (outcome information p d .picture) (information-is-steady p d) t
 
 -- $8
 pub suspend-keeps-sound : (p d : List ℕ) → sound p ≡ true → sound (outcome suspend p d .picture) ≡ true
@@ -64,10 +67,13 @@ suspend-keeps-sound p d h =
     let t = value (timeout-in (D3 d)) in
     sound-again _ (written-nobody-sound p (suspended p (stand p d) t) (stand p d) S (suspended-written p S (stand p d) u t) (suspended-turning p S (stand p d) u t (value-timely (low-half (D3 d))))))
 
-pub suspend-ages : (p d : List ℕ) → sound p ≡ true → (t : Table) → Ages p (outcome suspend p d .picture) t
-suspend-ages p d h t = suspend-ways (λ (o : Outcome). Ages p (o .picture) t) p d (λ k. ages-still p t) (λ lives _.
+pub suspend-is-steady : (p d : List ℕ) → sound p ≡ true → Steady p (outcome suspend p d .picture)
+suspend-is-steady p d h = suspend-ways (λ (o : Outcome). Steady p (o .picture)) p d (λ k. steady-still p) (λ lives _.
     let x = value (timeout-in (D3 d)) in
-    nobody-ages p (suspended p (stand p d) x) (suspended-written p (view p h) (stand p d) (at-used p (job p d) lives) x .steady) t)
+    nobody-steady p (suspended p (stand p d) x) (suspended-written p (view p h) (stand p d) (at-used p (job p d) lives) x .steady))
+
+pub suspend-ages : (p d : List ℕ) → sound p ≡ true → (t : Table) → Ages p (outcome suspend p d .picture) t
+suspend-ages p d h t = steady-ages p (outcome suspend p d .picture) (suspend-is-steady p d h) t
 
 -- $9
 pub release-keeps-sound : (p d : List ℕ) → sound p ≡ true → sound (outcome release p d .picture) ≡ true
@@ -77,9 +83,12 @@ release-keeps-sound p d h =
     let u = at-used p (job p d) lives in
     sound-again _ (written-nobody-sound p (released p (stand p d)) (stand p d) S (released-written p S (stand p d) u) (released-turning p S (stand p d) u)))
 
+pub release-is-steady : (p d : List ℕ) → sound p ≡ true → Steady p (outcome release p d .picture)
+release-is-steady p d h = release-ways (λ (o : Outcome). Steady p (o .picture)) p d (λ k. steady-still p) (λ lives.
+    nobody-steady p (released p (stand p d)) (released-written p (view p h) (stand p d) (at-used p (job p d) lives) .steady))
+
 pub release-ages : (p d : List ℕ) → sound p ≡ true → (t : Table) → Ages p (outcome release p d .picture) t
-release-ages p d h t = release-ways (λ (o : Outcome). Ages p (o .picture) t) p d (λ k. ages-still p t) (λ lives.
-    nobody-ages p (released p (stand p d)) (released-written p (view p h) (stand p d) (at-used p (job p d) lives) .steady) t)
+release-ages p d h t = steady-ages p (outcome release p d .picture) (release-is-steady p d h) t
 
 -- $B
 pub set-priority-keeps-sound : (p d : List ℕ) → sound p ≡ true → sound (outcome set-priority p d .picture) ≡ true
@@ -90,9 +99,12 @@ set-priority-keeps-sound p d h =
     let v = low-byte (D2 d) in
     sound-again _ (written-nobody-sound p (prioritized p (stand p d) v) (stand p d) S (prioritized-written p S (stand p d) u v) (prioritized-turning p S (stand p d) u v (leb-true v greatest-priority good))))
 
+pub set-priority-is-steady : (p d : List ℕ) → sound p ≡ true → Steady p (outcome set-priority p d .picture)
+set-priority-is-steady p d h = set-priority-ways (λ (o : Outcome). Steady p (o .picture)) p d (λ k. steady-still p) (λ lives _.
+    nobody-steady p (prioritized p (stand p d) (low-byte (D2 d))) (prioritized-written p (view p h) (stand p d) (at-used p (job p d) lives) (low-byte (D2 d)) .steady))
+
 pub set-priority-ages : (p d : List ℕ) → sound p ≡ true → (t : Table) → Ages p (outcome set-priority p d .picture) t
-set-priority-ages p d h t = set-priority-ways (λ (o : Outcome). Ages p (o .picture) t) p d (λ k. ages-still p t) (λ lives _.
-    nobody-ages p (prioritized p (stand p d) (low-byte (D2 d))) (prioritized-written p (view p h) (stand p d) (at-used p (job p d) lives) (low-byte (D2 d)) .steady) t)
+set-priority-ages p d h t = steady-ages p (outcome set-priority p d .picture) (set-priority-is-steady p d h) t
 
 -- $A: the caller is ready and the job named is not active, so they are two
 module _ (p : List ℕ) (S : Sound p) (n v : ℕ) (lives : live p Jobs n ≡ true) (idle : active p (position n) ≡ false) where
@@ -183,7 +195,10 @@ pub activate-keeps-sound : (p d : List ℕ) → sound p ≡ true → sound (outc
 activate-keeps-sound p d h = activate-ways (λ (o : Outcome). sound (o .picture) ≡ true) p d (λ k. h) (λ lives idle good _.
     sound-again _ (activated-sound p (view p h) (job p d) (low-byte (D2 d)) lives idle (timeout-in (D3 d)) (good-priority (low-byte (D2 d)) good)))
 
-pub activate-ages : (p d : List ℕ) → sound p ≡ true → (t : Table) → Ages p (outcome activate p d .picture) t
-activate-ages p d h t = activate-ways (λ (o : Outcome). Ages p (o .picture) t) p d (λ k. ages-still p t) (λ lives idle good _.
+pub activate-is-steady : (p d : List ℕ) → sound p ≡ true → Steady p (outcome activate p d .picture)
+activate-is-steady p d h = activate-ways (λ (o : Outcome). Steady p (o .picture)) p d (λ k. steady-still p) (λ lives idle good _.
     let q = waiting (prioritized p (stand p d) (low-byte (D2 d))) (timeout-in (D3 d)) (position (caller p)) (job p d) in
-    nobody-ages p q (activated-steady p (view p h) (job p d) (low-byte (D2 d)) lives idle (timeout-in (D3 d)) (good-priority (low-byte (D2 d)) good)) t)
+    nobody-steady p q (activated-steady p (view p h) (job p d) (low-byte (D2 d)) lives idle (timeout-in (D3 d)) (good-priority (low-byte (D2 d)) good)))
+
+pub activate-ages : (p d : List ℕ) → sound p ≡ true → (t : Table) → Ages p (outcome activate p d .picture) t
+activate-ages p d h t = steady-ages p (outcome activate p d .picture) (activate-is-steady p d h) t

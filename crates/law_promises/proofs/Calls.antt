@@ -31,7 +31,7 @@ among-by P n (e ∷ l) c b r = go (eqb n (e .0)) refl (among-by P n l c (b .1) r
     go true q z = b .0 (eqb-true n (e .0) q)
     go false q z = z
 
--- P holds of each call; of the priority call where it is the one named
+-- P holds of each call; of the priority call, of fetch and of send where it is the one named
 pub record EachCall (trap : ℕ) (p d name : List ℕ) (P : Outcome → Type 0) : Type 0 where
   pub informs : P (outcome information p d)
   pub creates : P (outcome create p d)
@@ -48,8 +48,8 @@ pub record EachCall (trap : ℕ) (p d name : List ℕ) (P : Outcome → Type 0) 
   pub opens : P (outcome (open-channel name) p d)
   pub closes : P (outcome close-channel p d)
   pub pends : P (outcome pending p d)
-  pub fetches : P (outcome fetch p d)
-  pub sends : P (outcome send p d)
+  pub fetches : trap ≡ 3 → word d 0 ≡ 0x1 → P (outcome fetch p d)
+  pub sends : trap ≡ 3 → word d 0 ≡ 0x5 → P (outcome send p d)
   pub refuses : P (refuse bad-parameter p d)
 
 pub each-call : (P : Outcome → Type 0) (trap : ℕ) (p d name : List ℕ) → EachCall trap p d name P → P (outcome (call-named trap name) p d)
@@ -78,7 +78,7 @@ each-call P trap p d name c =
           (c .refuses)),
       (
         (λ _. among-by Q (word d 0) (calls-two name) unknown ((λ _. c .opens), ((λ _. c .closes), tt)) (c .refuses)),
-        ((λ _. among-by Q (word d 0) calls-three unknown ((λ _. c .pends), ((λ _. c .fetches), ((λ _. c .sends), tt))) (c .refuses)), tt),
+        ((λ t. among-by Q (word d 0) calls-three unknown ((λ _. c .pends), ((λ e. c .fetches t e), ((λ e. c .sends t e), tt))) (c .refuses)), tt),
       ),
     )
     (c .refuses)

@@ -61,8 +61,8 @@ module _ (trap : ℕ) (p d name : List ℕ) where
     opens = open-channel-keeps-sound p d name s;
     closes = close-channel-keeps-sound p d s;
     pends = pending-keeps-sound p d s;
-    fetches = fetch-keeps-sound p d s;
-    sends = send-keeps-sound p d s;
+    fetches = λ _ _. fetch-keeps-sound p d s;
+    sends = λ _ _. send-keeps-sound p d s;
     refuses = s;
   }))
 

@@ -7,6 +7,7 @@ use native.Mathlib.Omega.{arith}
 use lib.ListN.{length}
 use lib.Dec.{eqb}
 use Rattle.words.specs.Words.{word}
+use Rattle.words.proofs.Tests.{false-true}
 use Rattle.picture.specs.Layout.{last-word, positions}
 use Rattle.picture.specs.Records.{number, used}
 use Rattle.picture.specs.Numbers.{tag, position, live}
@@ -27,8 +28,7 @@ use Rattle.manager.specs.Door.{checked, with-key, called}
 use Rattle.manager.specs.Turn.{pick-picture, ticking}
 use Rattle.law_turns.proofs.Pick.{pick-ages}
 use Rattle.law_turns.proofs.Tick.{tick-ages}
-use Rattle.law_promises.specs.History.{Event, trap, pick, tick, after, run, AlwaysSound, DeadStaysDead, DeadSinceFresh, LastTagNeverFalls, EndingTakesNoMore}
-use Rattle.law_ending.proofs.Promise.{ending-leaves-others, ending-takes-the-tree}
+use Rattle.law_promises.specs.History.{Event, trap, pick, tick, after, run, AlwaysSound, DeadStaysDead, DeadSinceFresh, LastTagNeverFalls}
 use Rattle.law_promises.proofs.Calls.{EachCall, each-call}
 use Rattle.law_promises.proofs.Door.{checked-by, call-keeps-sound, pick-keeps, tick-keeps}
 use Rattle.law_jobs.proofs.Kept.{information-ages, suspend-ages, release-ages, activate-ages, set-priority-ages}
@@ -74,8 +74,8 @@ checked-ages n p d name s = checked-by n p d name (Aged p) (ages-still p) (ages-
   opens = open-channel-ages p d name s;
   closes = close-channel-ages p d s;
   pends = pending-ages p d s;
-  fetches = fetch-ages p d s;
-  sends = send-ages p d s;
+  fetches = λ _ _. fetch-ages p d s;
+  sends = λ _ _. send-ages p d s;
   refuses = ages-still p;
 }))
 
@@ -106,7 +106,7 @@ run-then [] then p = refl
 run-then (e ∷ first) then p = run-then first then (after e p)
 
 -- a live number's tag was given
-given : (p : List ℕ) → sound p ≡ true → (t : Table) (n : ℕ) → live p t n ≡ true → tag n ≤ word p (last-word t)
+pub given : (p : List ℕ) → sound p ≡ true → (t : Table) (n : ℕ) → live p t n ≡ true → tag n ≤ word p (last-word t)
 given p s t n l =
     let L = live-is p t n l in
     let E = entries t in
@@ -127,7 +127,13 @@ dead-stays-dead p s t number then later l d =
 pub dead-since-fresh : DeadSinceFresh
 dead-since-fresh n h g t number first then later = dead-stays-dead (run first (fresh n h)) (always-sound n h g first) t number then later
 
-pub ending-takes-no-more : EndingTakesNoMore
-ending-takes-no-more n h g events t key u z =
-    let s = always-sound n h g events in
-    (ending-leaves-others (run events (fresh n h)) t key s u z, ending-takes-the-tree (run events (fresh n h)) t key s u z)
+-- a number that is live at both ends of a history is live after its first event
+pub live-after-the-first : (e : Event) (events : List Event) (p : List ℕ) → sound p ≡ true → (t : Table) (n : ℕ) → live p t n ≡ true → live (run events (after e p)) t n ≡ true → live (after e p) t n ≡ true
+live-after-the-first e events p s t n l m = go (live (after e p) t n) refl
+  where
+    go : (b : Bool) → live (after e p) t n ≡ b → b ≡ true
+    go true a = refl
+    go false a =
+        let x = given p s t n l in
+        let y = event-ages e p s t .rises in
+        absurd (false-true (sym (stays-dead (after e p) (run events (after e p)) t n (run-ages events (after e p) (event-keeps-sound e p s) t) (omega arith) a) ∙ m))

@@ -43,8 +43,8 @@ module _ (n j g : ℕ) (l : j < positions Jobs) (t : ℕ) (p d name : List ℕ) 
     opens = λ _. open-channel-is-quiet j l p d name s;
     closes = λ _. close-channel-is-quiet j l p d s;
     pends = λ _. pending-is-quiet j p d;
-    fetches = λ _. fetch-is-quiet j l p d s;
-    sends = λ _. send-is-quiet j l p d s;
+    fetches = λ _ _ _. fetch-is-quiet j l p d s;
+    sends = λ _ _ _. send-is-quiet j l p d s;
     refuses = λ _. nothing-is-quiet j p;
   }))
 

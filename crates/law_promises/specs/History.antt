@@ -6,14 +6,10 @@ use mathlib.Core.Bool.{true, false}
 use mathlib.Core.List.{List, [], _∷_, _++_}
 use Rattle.words.specs.Words.{word}
 use Rattle.picture.specs.Layout.{last-word}
-use Rattle.picture.specs.Records.{used}
 use Rattle.picture.specs.Numbers.{tag, live}
 use Rattle.picture.specs.declared.Table.{Table}
-use Rattle.picture.specs.declared.Table.the-variants.{Jobs}
 use Rattle.sound.specs.Sound.{sound}
 use Rattle.fresh.specs.Fresh.{fresh, fresh-good}
-use Rattle.ending.specs.Ended.{ended}
-use Rattle.law_ending.specs.Promise.{Leaves, Takes}
 use Rattle.manager.specs.Door.{called}
 use Rattle.manager.specs.Turn.{pick-picture, ticking}
 
@@ -55,9 +51,3 @@ DeadSinceFresh = (n h : ℕ) → fresh-good n n h ≡ true → (t : Table) (numb
 -- tags rise: the last tag given never falls, from any sound picture
 abbrev pub LastTagNeverFalls : Type 0
 LastTagNeverFalls = (p : List ℕ) → sound p ≡ true → (t : Table) (events : List Event) → word p (last-word t) ≤ word (run events p) (last-word t)
-
--- over any history, ending a tree takes the tree and what it owns, and leaves every block in use and every entry owned from outside as it was
-abbrev pub EndingTakesNoMore : Type 0
-EndingTakesNoMore = (n h : ℕ) → fresh-good n n h ≡ true → (events : List Event) (t key : ℕ)
-    → used (run events (fresh n h)) Jobs t ≡ true → (t ≡ 0 → ⊥)
-    → Leaves (run events (fresh n h)) (ended (run events (fresh n h)) t key) t key × Takes (run events (fresh n h)) (ended (run events (fresh n h)) t key) t

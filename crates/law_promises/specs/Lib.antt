@@ -2,4 +2,5 @@
 pub mod Door
 pub mod Equal
 pub mod History
+pub mod Ending
 pub mod Turn

@@ -3,4 +3,5 @@ pub mod Walk
 pub mod Written
 pub mod Ways
 pub mod Kept
+pub mod Stays
 pub mod Lists

@@ -24,13 +24,14 @@ use Rattle.calls.proofs.Found.{channel-stands, live-channel-passes}
 use Rattle.calls.specs.Registers.{D1, A0, with-D1}
 use Rattle.law_blocks.proofs.Tables.{TablesSame, base-same}
 use Rattle.queues.specs.Ring.{waits, full, oldest-byte, fetched, sent, contents}
-use Rattle.queues.proofs.Ring.{waits-tells, fetching-takes-the-head, sending-appends, contents-same}
+use Rattle.queues.proofs.Ring.{waits-tells, fetching-takes-the-head, sending-appends}
 use Rattle.channels.specs.Effects.{queue-of, immediate}
 use Rattle.channels.specs.Calls.{pending, fetch, send}
 use Rattle.channels.proofs.Found.{Held, live-queue, live-below}
 use Rattle.law_queues.specs.Lists.{bytes-at}
 use Rattle.law_queues.proofs.Written.{Written, tables, block-same}
 use Rattle.law_queues.proofs.Ways.{queue-there, pending-ways, fetch-ways, fetch-where-done, send-ways, send-where-done}
+use Rattle.law_queues.proofs.Stays.{QueueStays, a-queue-that-stays-keeps-its-bytes}
 use Rattle.law_queues.proofs.Kept.{lies, header-lies, fetched-written, sent-written, low-byte}
 
 -- a channel's queue stays where it is
@@ -52,9 +53,10 @@ other-queue p q s m n a b x W =
     let S = view p s in
     let H = live-queue p n s b in
     let G = live-queue p m s a in
-    ap (contents q) (queue-stays p q m (tables p q (position n) (queue-of p (position n)) S H W) a)
-    ∙ contents-same p q (queue-of p (position m)) (G .ring)
-    (λ k l u. block-same p q (position n) (queue-of p (position n)) S H W (queue-of p (position m)) (G .there) (λ e. x (queues-differ p s m n a b e)) k (omega arith) (let r = G .room in omega arith))
+    a-queue-that-stays-keeps-its-bytes p q s m a (record {
+      same-base = base-same p q (tables p q (position n) (queue-of p (position n)) S H W) Channels (position m) (live-below p m a);
+      same-longwords = block-same p q (position n) (queue-of p (position n)) S H W (queue-of p (position m)) (G .there) (λ e. x (queues-differ p s m n a b e));
+    })
 
 -- send appends
 pub send-appends : (p d : List ℕ) → sound p ≡ true → outcome send p d .key ≡ done → bytes-at (outcome send p d .picture) (A0 d) ≡ bytes-at p (A0 d) ++ ((D1 d % 256) ∷ [])

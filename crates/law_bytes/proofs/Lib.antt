@@ -1,0 +1,4 @@
+-- The order of bytes, proved.
+pub mod Kept
+pub mod Events
+pub mod Order

@@ -1,0 +1,1 @@
+// The order of bytes over whole histories: laws only.
