@@ -1,5 +1,5 @@
 -- What $2 answers, for whom, and that it leaves the picture.
 pub mod Next
-pub mod Members
+pub mod Answer
 pub mod Bench
 pub mod Kept

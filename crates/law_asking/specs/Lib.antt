@@ -1,1 +1,2 @@
--- What $2 answers, and for whom: this crate has laws only.
+-- What $2 answers, in words.
+pub mod Answer

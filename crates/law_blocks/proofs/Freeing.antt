@@ -10,7 +10,8 @@ use Rattle.picture.specs.Layout.{heap-word, size-word, from, upto}
 use Rattle.picture.specs.declared.Area.{Area}
 use Rattle.headers.proofs.Header.{same-or-not}
 use Rattle.freeing.specs.Sweep.{swept}
-use Rattle.law_freeing.proofs.Swept.{Swept, sweeping-keeps-the-area}
+use Rattle.law_freeing.specs.Swept.{Swept}
+use Rattle.law_freeing.proofs.Swept.{sweeping-keeps-the-area}
 use Rattle.law_freeing.proofs.Alone.{no-other-block-goes}
 use Rattle.sound_facts.proofs.Sound.{Tiled}
 use Rattle.rooms.proofs.Sizes.{Lies}

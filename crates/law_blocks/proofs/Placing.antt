@@ -16,7 +16,8 @@ use Rattle.headers.specs.Header.{Outside}
 use Rattle.law_areas.proofs.Row.{Block, block-of}
 use Rattle.placing.specs.Place.{placed}
 use Rattle.placing.proofs.Chosen.{Chosen}
-use Rattle.law_placing.proofs.Placed.{Placed, placed-keeps-the-area}
+use Rattle.law_placing.specs.Placed.{Placed}
+use Rattle.law_placing.proofs.Placed.{placed-keeps-the-area}
 use Rattle.sound_facts.proofs.Sound.{Tiled}
 use Rattle.rooms.specs.Room.{spot}
 use Rattle.rooms.proofs.Room.{has-room, spot-is-free-and-enough}

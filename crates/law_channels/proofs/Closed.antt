@@ -31,7 +31,7 @@ use Rattle.sound_matching.proofs.Matched.{Matched}
 use Rattle.masks.specs.Masks.{without-bit}
 use Rattle.masks.proofs.Masks.{without-bit-here, without-bit-other}
 use Rattle.freeing.specs.Sweep.{goes, swept}
-use Rattle.law_freeing.proofs.Swept.{Swept}
+use Rattle.law_freeing.specs.Swept.{Swept}
 use Rattle.law_freeing.proofs.Alone.{the-block-at-a-goes}
 use Rattle.sound.specs.Sound.{sound}
 use Rattle.sound_facts.proofs.Sound.{Sizes, Owned, Entries, Jobs-fine, Channels-fine, Sound}

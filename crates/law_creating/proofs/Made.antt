@@ -22,7 +22,7 @@ use Rattle.blocks.specs.Walk.{blocks}
 use Rattle.blocks.proofs.Starts.{starts-in}
 use Rattle.placing.specs.Place.{placed}
 use Rattle.placing.proofs.Chosen.{Chosen}
-use Rattle.law_placing.proofs.Placed.{Placed}
+use Rattle.law_placing.specs.Placed.{Placed}
 use Rattle.sound.specs.Sound.{sound}
 use Rattle.sound_facts.proofs.Sound.{Sound, Sizes}
 use Rattle.sound_facts.proofs.View.{view}

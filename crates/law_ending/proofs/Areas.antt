@@ -23,7 +23,8 @@ use Rattle.sound_facts.proofs.Same.{starts-between}
 use Rattle.sound_facts.proofs.Sound.{Sound}
 use Rattle.freeing.specs.Sweep.{named, goes, swept}
 use Rattle.freeing.proofs.Steps.{goes-same}
-use Rattle.law_freeing.proofs.Swept.{Swept, given-size, given-bytes, sweeping-keeps-the-area}
+use Rattle.law_freeing.specs.Swept.{Swept, given-size, given-bytes}
+use Rattle.law_freeing.proofs.Swept.{sweeping-keeps-the-area}
 use Rattle.ending.specs.Ended.{no-block, returned}
 
 -- the blocks in use of q, in the area from b to e, are those of p that do not go, with every longword; the area is tiled, and free blocks are apart and plain; the bytes of the blocks that go are free

@@ -35,7 +35,7 @@ use Rattle.sound_facts.proofs.Sound.{Sound}
 use Rattle.sound_facts.proofs.View.{view}
 use Rattle.freeing.specs.Sweep.{named, goes}
 use Rattle.law_freeing.proofs.Goes.{goes-used, a-block-owned-by-the-set-goes}
-use Rattle.law_freeing.proofs.Swept.{given-size, given-bytes}
+use Rattle.law_freeing.specs.Swept.{given-size, given-bytes}
 use Rattle.tree.specs.Tree.{tree}
 use Rattle.law_owners.specs.Under.{Under}
 use Rattle.masks.proofs.Masks.{mask-bit}

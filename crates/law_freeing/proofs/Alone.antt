@@ -18,7 +18,7 @@ use Rattle.blocks.specs.Walk.{starts}
 use Rattle.blocks.proofs.Starts.{Rising, starts-rising, rising-in}
 use Rattle.freeing.specs.Sweep.{named, goes}
 use Rattle.law_freeing.proofs.Goes.{the-block-at-that-place-goes, a-block-owned-from-outside-stays}
-use Rattle.law_freeing.proofs.Swept.{given-size, given-bytes}
+use Rattle.law_freeing.specs.Swept.{given-size, given-bytes}
 
 no-bit : (k : ℕ) → bit 0 k ≡ false
 no-bit k = let z : 0 / 2 ^ k ≡ 0 = div-eq-of-lt (pow-pos k) in rw z

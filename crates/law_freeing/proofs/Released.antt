@@ -19,7 +19,7 @@ use Rattle.law_areas.specs.Area.{Tiled, Apart, Blank}
 use Rattle.headers.proofs.Header.{same-or-not}
 use Rattle.law_areas.proofs.Row.{block-of}
 use Rattle.law_freeing.proofs.Neighbours.{first-block, next-block, blocks-in-order, in-some-block}
-use Rattle.law_freeing.proofs.Swept.{Swept}
+use Rattle.law_freeing.specs.Swept.{Swept}
 use Rattle.law_freeing.proofs.Alone.{the-block-at-a-goes, no-other-block-goes}
 use Rattle.law_freeing.specs.Merge.{before}
 use Rattle.law_freeing.proofs.Ends.{prior, ends-above, Low, High}

@@ -1,2 +1,3 @@
 -- The definitions that the laws cite.
 pub mod Merge
+pub mod Swept

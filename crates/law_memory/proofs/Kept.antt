@@ -18,7 +18,7 @@ use Rattle.picture.specs.declared.Area.{Area}
 use Rattle.picture.specs.declared.Area.the-variants.{Heap, Transient}
 use Rattle.blocks.specs.Header.{kind, kind-of, plain-kind, free}
 use Rattle.blocks.specs.Walk.{blocks}
-use Rattle.law_placing.proofs.Placed.{Placed}
+use Rattle.law_placing.specs.Placed.{Placed}
 use Rattle.sound.specs.Sound.{sound}
 use Rattle.sound_facts.proofs.Sound.{Sound}
 use Rattle.sound_facts.proofs.View.{view, sound-again}

@@ -25,7 +25,7 @@ use Rattle.blocks.specs.Walk.{starts, blocks}
 use Rattle.blocks.proofs.Starts.{starts-in}
 use Rattle.headers.specs.Header.{Outside}
 use Rattle.placing.specs.Place.{placed}
-use Rattle.law_placing.proofs.Placed.{Placed}
+use Rattle.law_placing.specs.Placed.{Placed}
 use Rattle.placing.proofs.Chosen.{Chosen}
 use Rattle.sound_areas.specs.Rules.{longest-queue}
 use Rattle.sound.specs.Sound.{sound}

@@ -9,7 +9,8 @@ use Rattle.placing.specs.declared.Placement.{Placement}
 use Rattle.placing.specs.declared.Placement.the-variants.{At, Nowhere}
 use Rattle.placing.proofs.Chosen.{Chosen, NoRoom}
 use Rattle.placing.proofs.Answer.{placed-at-a-chosen-block, after-at, nowhere-is-no-room, no-room-is-nowhere, after-nowhere}
-use Rattle.law_placing.proofs.Placed.{Placed, placed-keeps-the-area}
+use Rattle.law_placing.specs.Placed.{Placed}
+use Rattle.law_placing.proofs.Placed.{placed-keeps-the-area}
 
 module _ (p q : List ℕ) (base e n k o s : ℕ) (r : Placement) (P : Placing p base e n k o s r q) where
   -- At i: the block at i was free and long enough, and now the new block stands there

@@ -21,38 +21,8 @@ use Rattle.law_areas.specs.Area.{Tiled, Apart, Blank, bytes, free-size, free-by
 use Rattle.law_areas.proofs.Row.{in-first, in-second, in-either, total-parts, Block, block-of, blocks-fill-the-area, free-and-used, Parted, parted-at}
 use Rattle.placing.specs.Place.{placed}
 use Rattle.placing.proofs.Chosen.{Chosen}
+use Rattle.law_placing.specs.Placed.{Placed}
 use Rattle.law_placing.proofs.Written.{Room, Written, placed-is-written}
-
--- q is p with n bytes of kind k, owner o and start address s placed at i in the area from base to e
-pub record Placed (p q : List ℕ) (base e i n k o s : ℕ) : Type 0 where
-  pub as-long : length q ≡ length p
-  pub outside : (j : ℕ) → Outside base e j → word q j ≡ word p j
-  -- the new block
-  pub there : In i (starts q base e)
-  pub its-size : size q i ≡ n
-  pub its-kind : kind q i ≡ k
-  pub its-owner : holder q i ≡ o
-  pub its-start : start q i ≡ s
-  pub its-room : (j : ℕ) → i + 4 ≤ j → j < i + n / 4 → word q j ≡ 0
-  -- the rest stays free
-  pub rest-there : n < size p i → In (i + n / 4) (starts q base e)
-  pub rest-size : n < size p i → size q (i + n / 4) ≡ size p i - n
-  pub rest-kind : n < size p i → kind q (i + n / 4) ≡ 0
-  pub rest-owner : n < size p i → holder q (i + n / 4) ≡ 0
-  pub rest-start : n < size p i → start q (i + n / 4) ≡ 0
-  pub rest-room : n < size p i → (j : ℕ) → i + n / 4 + 4 ≤ j → j < i + size p i / 4 → word q j ≡ word p j
-  -- every other block is as it was, and there are no more
-  pub stays : (j : ℕ) → In j (starts p base e) → (j ≡ i → ⊥) → In j (starts q base e)
-  pub keeps : (j : ℕ) → In j (starts p base e) → (j ≡ i → ⊥) → (w : ℕ) → j ≤ w → w < j + size p j / 4 → word q w ≡ word p w
-  pub only : (j : ℕ) → In j (starts q base e) → (j ≡ i) ⊎ (((n < size p i) × (j ≡ i + n / 4)) ⊎ (In j (starts p base e) × (j ≡ i → ⊥)))
-  -- what tiles and has no two free neighbours still does
-  pub tiled : Tiled q base e
-  pub apart : Apart p base e → Apart q base e
-  pub blank : Blank p base e → Blank q base e
-  -- the bytes stay the same; n of them are no longer free but in use
-  pub same-bytes : bytes q base e ≡ bytes p base e
-  pub less-free : free-bytes q base e + n ≡ free-bytes p base e
-  pub more-used : used-bytes q base e ≡ used-bytes p base e + n
 
 -- the walk of p around the block at i, which is taken
 module _ (p : List ℕ) (base e i n : ℕ) (T : Tiled p base e) (C : Chosen p base e n i) (units : n % 16 ≡ 0) (least : 16 ≤ n) where

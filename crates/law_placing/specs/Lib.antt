@@ -1,2 +1,3 @@
 -- What the laws say of placing, in words.
 pub mod Rule
+pub mod Placed

@@ -9,3 +9,4 @@ pub mod CallsQuiet
 pub mod TablesQuiet
 pub mod Quiet
 pub mod Turn
+pub mod Asking

@@ -4,3 +4,4 @@ pub mod Equal
 pub mod History
 pub mod Ending
 pub mod Turn
+pub mod Asking
