@@ -1,4 +1,4 @@
--- What can be wrong with a call, in the words of the rules. The picture is p, the registers are d, and the name beside them is s.
+-- What can be wrong with a call, in the words of the rules (rule 62). The picture is p, the registers are d, and the name beside them is s.
 use Prim.Native.Nat.{ℕ, _≤_, _<_}
 use mathlib.Core.Path.{_≡_}
 use mathlib.Core.Bool.{true, false}

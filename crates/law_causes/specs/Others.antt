@@ -1,4 +1,4 @@
--- "Each key is given only for its cause": the keys of a fresh picture, of an error's text, of the pick and of the tick, both ways.
+-- "Each key is given only for its cause" (rule 62): the keys of a fresh picture, of an error's text, of the pick and of the tick, both ways.
 use Prim.Native.Nat.{ℕ, suc, _+_, _%_, _≤_, _<_}
 use mathlib.Core.Path.{_≡_}
 use mathlib.Core.Bool.{false}

@@ -1,4 +1,4 @@
--- "Each key is given only for its cause": what can be wrong with each call, in the order of its checks, and the key of each.
+-- "Each key is given only for its cause" (rule 62): what can be wrong with each call, in the order of its checks, and the key of each.
 use Prim.Native.Nat.{ℕ, _+_}
 use mathlib.Core.Path.{_≡_}
 use mathlib.Core.Bool.{cond}
