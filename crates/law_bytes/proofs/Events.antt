@@ -13,7 +13,7 @@ use lib.Seq.{getD-set-other}
 use borrow.Author.Tests.{eq-eqb, eqb-true}
 use Rattle.words.specs.Words.{word}
 use Rattle.words.specs.Signed.{bits, eqZ}
-use Rattle.words.proofs.Signed.{eqZ-true, eqZ-false}
+use Rattle.words.proofs.Signed.{eqZ-true, eq-eqZ, eqZ-false}
 use Rattle.words.proofs.Tests.{both, false-true}
 use Rattle.picture.specs.Keys.{done, bad-parameter}
 use Rattle.picture.specs.Numbers.{live}
@@ -56,6 +56,9 @@ on code n t d k h =
     let b = both (eqb (word d 0) code) _ (a .1) in
     let c = both (eqb (A0 d) n) _ (b .1) in
     record { is-three = eqb-true t 3 (a .0); is-code = eqb-true (word d 0) code (b .0); channel = eqb-true (A0 d) n (c .0); is-done = eqZ-true k done (c .1) }
+
+all-four : (a b c e : Bool) → a ≡ true → b ≡ true → c ≡ true → e ≡ true → a && (b && (c && e)) ≡ true
+all-four a b c e w x y z = rw (w, x, y, z)
 
 module _ (t : ℕ) (p d name : List ℕ) (s : sound p ≡ true) (n : ℕ) (lives : live p Channels n ≡ true) where
   -- a call that is refused leaves the picture
@@ -103,9 +106,9 @@ module _ (t : ℕ) (p d name : List ℕ) (s : sound p ≡ true) (n : ℕ) (lives
         go true = checked-keeps
         go false = λ _. refl
 
-  -- a call that is done on no channel n of trap 3 with this code, and is done, is none of these
+  -- a call that is done and does not pass that test is another one
   none : (code : ℕ) → done-on code n (trap t d name) p ≡ false → called t p d name .key ≡ done → t ≡ 3 → word d 0 ≡ code → A0 d ≡ n → ⊥
-  none code f k e c a = false-true (sym f ∙ rw (eq-eqb t 3 e, eq-eqb (word d 0) code c, eq-eqb (A0 d) n a, k))
+  none code f k e c a = false-true (sym f ∙ all-four (eqb t 3) (eqb (word d 0) code) (eqb (A0 d) n) (eqZ (called t p d name .key) done) (eq-eqb t 3 e) (eq-eqb (word d 0) code c) (eq-eqb (A0 d) n a) (eq-eqZ (called t p d name .key) done k))
 
   call-moves-nothing-else : live (called t p d name .picture) Channels n ≡ true → is-fetch n (trap t d name) p ≡ false → is-send n (trap t d name) p ≡ false → bytes-at (called t p d name .picture) n ≡ bytes-at p n
   call-moves-nothing-else l f g = go (eqZ (called t p d name .key) done) refl

@@ -35,7 +35,8 @@ use Rattle.law_asking.proofs.Kept.{ask-leaves-the-picture}
 use Rattle.ending.specs.Ended.{ended}
 use Rattle.ending.specs.Remove.{remove, force-remove}
 use Rattle.law_ending.specs.Promise.{Member, OfTheTree}
-use Rattle.law_ending.proofs.Promise.{ending-leaves-others, ending-takes-the-tree, top-is-in-the-transient-area}
+use Rattle.law_ending.proofs.OfTheTree.{top-is-in-the-transient-area}
+use Rattle.law_ending.proofs.Promise.{ending-leaves-others, ending-takes-the-tree}
 use Rattle.law_ending.proofs.Calls.{of-remove, of-force-remove}
 
 module _ (p : List ℕ) (s : sound p ≡ true) (n : ℕ) (lives : live p Channels n ≡ true) where
@@ -96,7 +97,7 @@ module _ (p : List ℕ) (s : sound p ≡ true) (n : ℕ) (lives : live p Channel
         same-base = L .channels (position n) base-field in-use outside (omega arith);
         same-longwords = L .block-longwords Heap (queue-of p (position n)) (b .0) (b .1) (⊎-elim
             (λ (M : Member p t (holder p (queue-of p (position n)))). outside (subst (Member p t) (sym (H .own .held)) M))
-            (λ e. top-is-in-the-transient-area p (view p s) t key u z (queue-of p (position n)) (b .0) e));
+            (λ e. top-is-in-the-transient-area p (view p s) t u z (queue-of p (position n)) (b .0) e));
       })
     where
       in-use : used p Channels (position n) ≡ true

@@ -2,3 +2,4 @@
 pub mod Kept
 pub mod Events
 pub mod Order
+pub mod Bench
