@@ -24,11 +24,11 @@ use Rattle.manager.proofs.Door.{named-two}
 use Rattle.law_opening.proofs.Ways.{Checked, open-channel-where-done}
 use Rattle.law_opening.proofs.Queues.{a-new-number-was-dead, a-new-channel-is-live, a-new-channel-is-empty}
 use Rattle.law_queues.specs.Lists.{bytes-at}
-use Rattle.law_promises.specs.History.{Event, after, run}
+use Rattle.law_promises.specs.History.{after, run}
 use Rattle.law_promises.proofs.Done.{where-the-call-is-done}
 use Rattle.law_promises.proofs.Door.{call-keeps-sound}
 use Rattle.law_promises.proofs.History.{event-keeps-sound, live-after-the-first}
-use Rattle.law_bytes.specs.Order.{fetched-by, sent-by, fetched-from, sent-to, OrderOfBytes, NewChannel, OpeningMakesAnEmptyQueue, InOrderSince, OrderSinceTheOpening}
+use Rattle.law_bytes.specs.Order.{fetched-by, sent-by, fetched-from, sent-to, OrderOfBytes, NewChannel, OpeningMakesAnEmptyQueue, OrderSinceTheOpening}
 use Rattle.law_bytes.proofs.Events.{event-keeps-the-order}
 
 pub order-of-bytes : OrderOfBytes

@@ -1,7 +1,7 @@
 -- Opening a channel leaves every queue as it was; the new channel is live, and its queue is empty.
-use Prim.Native.Nat.{ℕ, _+_, _*_, _/_, _%_, _≤_, _<_}
+use Prim.Native.Nat.{ℕ, _+_, _<_}
 use mathlib.Core.Path.{_≡_, refl, sym, ap, _∙_}
-use mathlib.Core.Bool.{true, false}
+use mathlib.Core.Bool.{true}
 use mathlib.Core.Logic.{⊎-elim}
 use mathlib.Core.List.{List, []}
 use native.Mathlib.Omega.{arith}
@@ -11,11 +11,10 @@ use Rattle.picture.specs.Records.{number, used, slot, number-field, base-field}
 use Rattle.picture.specs.Numbers.{tag, position, live, free-position}
 use Rattle.picture.specs.declared.Table.the-variants.{Channels}
 use Rattle.picture.specs.declared.Area.the-variants.{Heap}
-use Rattle.picture.proofs.Numbers.{Live, live-is, is-live}
+use Rattle.picture.proofs.Numbers.{live-is, is-live}
 use Rattle.blocks.specs.Header.{queue-count-field, queue-count}
 use Rattle.sound_matching.proofs.Counts.{Matches}
 use Rattle.sound.specs.Sound.{sound}
-use Rattle.sound_facts.proofs.Sound.{Sound}
 use Rattle.sound_facts.proofs.View.{has-block-used}
 use Rattle.calls.specs.Outcome.{Outcome}
 use Rattle.calls.specs.Call.{outcome}
