@@ -1,47 +1,39 @@
 -- What one event does to the bytes of a channel that lives through it: a fetch takes the head, a send appends, and nothing else moves one.
-use Prim.Native.Nat.{ℕ, _%_, _<_}
-use mathlib.Core.Path.{_≡_, refl, sym, ap, _∙_, subst}
+use Prim.Native.Nat.{ℕ, _%_}
+use mathlib.Core.Path.{_≡_, refl, sym, ap, _∙_}
 use mathlib.Core.Bool.{Bool, true, false, _&&_, cond}
-use mathlib.Core.Logic.{by-cases}
 use mathlib.Core.List.{List, [], _∷_, _++_, append-nil}
 use native.Mathlib.Omega.{arith}
-use native.Mathlib.Decide.{ℕ-discrete}
 use lib.IntN.{ℤ}
-use lib.ListN.{length}
 use lib.Dec.{eqb}
 use lib.Seq.{getD-set-other}
 use borrow.Author.Tests.{eq-eqb, eqb-true}
 use Rattle.words.specs.Words.{word}
 use Rattle.words.specs.Signed.{bits, eqZ}
-use Rattle.words.proofs.Signed.{eqZ-true, eqZ-false}
+use Rattle.words.proofs.Signed.{eqZ-true, eq-eqZ, eqZ-false}
 use Rattle.words.proofs.Tests.{both, false-true}
-use Rattle.picture.specs.Keys.{done, bad-parameter}
+use Rattle.picture.specs.Keys.{done}
 use Rattle.picture.specs.Numbers.{live}
 use Rattle.picture.specs.declared.Table.the-variants.{Channels}
 use Rattle.sound.specs.Sound.{sound}
 use Rattle.sound_facts.proofs.View.{view}
-use Rattle.calls.specs.Outcome.{Outcome, refuse}
+use Rattle.calls.specs.Outcome.{Outcome}
 use Rattle.calls.specs.Call.{outcome}
 use Rattle.calls.specs.Registers.{D1, A0}
-use Rattle.calls.proofs.Call.{refusal-changes-nothing}
 use Rattle.channels.specs.Calls.{fetch, send}
 use Rattle.traps.specs.Traps.{trap-three, call-named}
-use Rattle.manager.specs.Door.{checked, with-key, called}
+use Rattle.manager.specs.Door.{called}
 use Rattle.manager.specs.Turn.{pick-picture, ticking}
 use Rattle.manager.proofs.Door.{named-three}
-use Rattle.law_jobs.proofs.Kept.{information-is-steady, suspend-is-steady, release-is-steady, activate-is-steady, set-priority-is-steady}
 use Rattle.law_turns.proofs.Pick.{pick-is-steady}
 use Rattle.law_turns.proofs.Tick.{tick-is-steady}
 use Rattle.law_queues.specs.Lists.{bytes-at}
-use Rattle.law_queues.proofs.Lists.{send-appends, fetch-takes-the-head, pending-leaves-every-queue, fetch-leaves-other-queues, send-leaves-other-queues}
-use Rattle.law_channels.proofs.Queues.{close-channel-keeps-the-bytes}
-use Rattle.law_opening.proofs.Queues.{open-channel-leaves-every-queue}
+use Rattle.law_queues.proofs.Lists.{send-appends, fetch-takes-the-head}
 use Rattle.law_promises.specs.History.{Event, trap, pick, tick, after}
-use Rattle.law_promises.proofs.Calls.{EachCall, each-call}
-use Rattle.law_promises.proofs.Door.{checked-by}
 use Rattle.law_promises.proofs.Done.{where-the-call-is-done}
 use Rattle.law_bytes.specs.Order.{done-on, is-fetch, is-send, fetched-by, sent-by, NothingElseMovesAByte}
-use Rattle.law_bytes.proofs.Kept.{Kept, steady-keeps-the-bytes, ask-keeps-the-bytes, longest-room-keeps-the-bytes, take-keeps-the-bytes, give-back-keeps-the-bytes, create-keeps-the-bytes, remove-keeps-the-bytes, force-remove-keeps-the-bytes}
+use Rattle.law_bytes.proofs.Kept.{steady-keeps-the-bytes}
+use Rattle.law_bytes.proofs.Calls.{refused-leaves, call-keeps}
 
 -- what a call of trap 3 that is done says of the registers
 pub record On (code n t : ℕ) (d : List ℕ) (k : ℤ) : Type 0 where
@@ -57,62 +49,20 @@ on code n t d k h =
     let c = both (eqb (A0 d) n) _ (b .1) in
     record { is-three = eqb-true t 3 (a .0); is-code = eqb-true (word d 0) code (b .0); channel = eqb-true (A0 d) n (c .0); is-done = eqZ-true k done (c .1) }
 
+all-four : (a b c e : Bool) → a ≡ true → b ≡ true → c ≡ true → e ≡ true → a && (b && (c && e)) ≡ true
+all-four a b c e w x y z = rw (w, x, y, z)
+
 module _ (t : ℕ) (p d name : List ℕ) (s : sound p ≡ true) (n : ℕ) (lives : live p Channels n ≡ true) where
-  -- a call that is refused leaves the picture
-  refused-leaves : (called t p d name .key ≡ done → ⊥) → called t p d name .picture ≡ p
-  unfolding called
-  refused-leaves = go (eqb (length d) 8)
-    where
-      go : (b : Bool) → (cond b (with-key (outcome (checked t name) p d)) (refuse bad-parameter p d) .key ≡ done → ⊥)
-          → cond b (with-key (outcome (checked t name) p d)) (refuse bad-parameter p d) .picture ≡ p
-      go true x = refusal-changes-nothing (checked t name) p d x .0
-      go false x = refl
-
-  -- a call that isn't a fetch or a send on the channel
-  module _ (no-fetch : t ≡ 3 → word d 0 ≡ 0x1 → A0 d ≡ n → ⊥) (no-send : t ≡ 3 → word d 0 ≡ 0x5 → A0 d ≡ n → ⊥) where
-    abbrev Same : Outcome → Type 0
-    Same o = live (o .picture) Channels n ≡ true → bytes-at (o .picture) n ≡ bytes-at p n
-
-    checked-keeps : Same (outcome (checked t name) p d)
-    checked-keeps = checked-by t p d name Same (λ _. refl) (λ _. refl) (λ _ _. each-call Same t p d name (record {
-      informs = λ _. steady-keeps-the-bytes p s n lives _ (information-is-steady p d);
-      creates = λ _. create-keeps-the-bytes p s n lives d;
-      asks = λ _. ask-keeps-the-bytes p s n lives d;
-      removes = remove-keeps-the-bytes p s n lives d;
-      forces = force-remove-keeps-the-bytes p s n lives d;
-      measures = λ _. longest-room-keeps-the-bytes p s n lives d;
-      suspends = λ _. steady-keeps-the-bytes p s n lives _ (suspend-is-steady p d s);
-      releases = λ _. steady-keeps-the-bytes p s n lives _ (release-is-steady p d s);
-      activates = λ _. steady-keeps-the-bytes p s n lives _ (activate-is-steady p d s);
-      prioritizes = λ _ _ _. steady-keeps-the-bytes p s n lives _ (set-priority-is-steady p d s);
-      takes = λ _. take-keeps-the-bytes p s n lives d;
-      gives-back = λ _. give-back-keeps-the-bytes p s n lives d;
-      opens = λ _. open-channel-leaves-every-queue p d name s n lives;
-      closes = close-channel-keeps-the-bytes p d s n lives;
-      pends = λ _. pending-leaves-every-queue p d n;
-      fetches = λ e c _. fetch-leaves-other-queues p d s n lives (λ a. no-fetch e c (sym a));
-      sends = λ e c _. send-leaves-other-queues p d s n lives (λ a. no-send e c (sym a));
-      refuses = λ _. refl;
-    }))
-
-    call-keeps : live (called t p d name .picture) Channels n ≡ true → bytes-at (called t p d name .picture) n ≡ bytes-at p n
-    unfolding called
-    call-keeps = go (eqb (length d) 8)
-      where
-        go : (b : Bool) → Same (cond b (with-key (outcome (checked t name) p d)) (refuse bad-parameter p d))
-        go true = checked-keeps
-        go false = λ _. refl
-
-  -- a call that is done on no channel n of trap 3 with this code, and is done, is none of these
+  -- a call that is done and does not pass that test is another one
   none : (code : ℕ) → done-on code n (trap t d name) p ≡ false → called t p d name .key ≡ done → t ≡ 3 → word d 0 ≡ code → A0 d ≡ n → ⊥
-  none code f k e c a = false-true (sym f ∙ rw (eq-eqb t 3 e, eq-eqb (word d 0) code c, eq-eqb (A0 d) n a, k))
+  none code f k e c a = false-true (sym f ∙ all-four (eqb t 3) (eqb (word d 0) code) (eqb (A0 d) n) (eqZ (called t p d name .key) done) (eq-eqb t 3 e) (eq-eqb (word d 0) code c) (eq-eqb (A0 d) n a) (eq-eqZ (called t p d name .key) done k))
 
   call-moves-nothing-else : live (called t p d name .picture) Channels n ≡ true → is-fetch n (trap t d name) p ≡ false → is-send n (trap t d name) p ≡ false → bytes-at (called t p d name .picture) n ≡ bytes-at p n
   call-moves-nothing-else l f g = go (eqZ (called t p d name .key) done) refl
     where
       go : (b : Bool) → eqZ (called t p d name .key) done ≡ b → bytes-at (called t p d name .picture) n ≡ bytes-at p n
-      go true k = let z = eqZ-true (called t p d name .key) done k in call-keeps (none 0x1 f z) (none 0x5 g z) l
-      go false k = ap (λ (q : List ℕ). bytes-at q n) (refused-leaves (eqZ-false (called t p d name .key) done k))
+      go true k = let z = eqZ-true (called t p d name .key) done k in call-keeps t p d name s n lives (none 0x1 f z) (none 0x5 g z) l
+      go false k = ap (λ (q : List ℕ). bytes-at q n) (refused-leaves t p d name s n lives (eqZ-false (called t p d name .key) done k))
 
   -- the call that a trap number and D0 name
   is-the-fetch : t ≡ 3 → word d 0 ≡ 0x1 → outcome (call-named t name) p d ≡ outcome fetch p d

@@ -1,20 +1,18 @@
 -- Each call leaves the bytes of a channel that is live before and after it, where it is no fetch and no send on that channel:
 -- the channel's record keeps its base and its block every longword.
-use Prim.Native.Nat.{ℕ, _+_, _*_, _/_, _≤_, _<_}
-use mathlib.Core.Path.{_≡_, refl, sym, ap, _∙_, subst}
-use mathlib.Core.Bool.{true, false}
-use mathlib.Core.Logic.{⊎-elim, _⊎_, inl, inr}
+use Prim.Native.Nat.{ℕ, _+_}
+use mathlib.Core.Path.{_≡_, refl, sym, _∙_, subst}
+use mathlib.Core.Bool.{true}
+use mathlib.Core.Logic.{⊎-elim}
 use mathlib.Core.List.{List}
 use native.Mathlib.Omega.{arith}
-use Rattle.words.specs.Words.{word}
 use Rattle.words.proofs.Tests.{false-true}
-use Rattle.picture.specs.Layout.{first-record}
-use Rattle.picture.specs.Records.{slot, owner, base, used, base-field}
+use Rattle.picture.specs.Records.{slot, owner, used, base-field}
 use Rattle.picture.specs.Numbers.{position, live}
 use Rattle.picture.specs.declared.Table.the-variants.{Jobs, Channels}
 use Rattle.picture.specs.declared.Area.the-variants.{Heap}
-use Rattle.picture.proofs.Numbers.{Live, live-is}
-use Rattle.blocks.specs.Header.{kind, holder, plain-kind}
+use Rattle.picture.proofs.Numbers.{live-is}
+use Rattle.blocks.specs.Header.{holder}
 use Rattle.sound.specs.Sound.{sound}
 use Rattle.sound_facts.proofs.View.{view}
 use Rattle.calls.specs.Outcome.{Outcome}
@@ -34,8 +32,9 @@ use Rattle.asking.specs.Ask.{ask}
 use Rattle.law_asking.proofs.Kept.{ask-leaves-the-picture}
 use Rattle.ending.specs.Ended.{ended}
 use Rattle.ending.specs.Remove.{remove, force-remove}
-use Rattle.law_ending.specs.Promise.{Member, OfTheTree}
-use Rattle.law_ending.proofs.Promise.{ending-leaves-others, ending-takes-the-tree, top-is-in-the-transient-area}
+use Rattle.law_ending.specs.Promise.{Member}
+use Rattle.law_ending.proofs.OfTheTree.{top-is-in-the-transient-area}
+use Rattle.law_ending.proofs.Promise.{ending-leaves-others, ending-takes-the-tree}
 use Rattle.law_ending.proofs.Calls.{of-remove, of-force-remove}
 
 module _ (p : List ℕ) (s : sound p ≡ true) (n : ℕ) (lives : live p Channels n ≡ true) where
@@ -96,7 +95,7 @@ module _ (p : List ℕ) (s : sound p ≡ true) (n : ℕ) (lives : live p Channel
         same-base = L .channels (position n) base-field in-use outside (omega arith);
         same-longwords = L .block-longwords Heap (queue-of p (position n)) (b .0) (b .1) (⊎-elim
             (λ (M : Member p t (holder p (queue-of p (position n)))). outside (subst (Member p t) (sym (H .own .held)) M))
-            (λ e. top-is-in-the-transient-area p (view p s) t key u z (queue-of p (position n)) (b .0) e));
+            (λ e. top-is-in-the-transient-area p (view p s) t u z (queue-of p (position n)) (b .0) e));
       })
     where
       in-use : used p Channels (position n) ≡ true

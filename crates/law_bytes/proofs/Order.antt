@@ -1,7 +1,7 @@
 -- The order of bytes over a history: each event keeps it, so all of them do; and a channel opened begins with no byte.
 use Prim.Native.Nat.{ℕ}
 use mathlib.Core.Path.{_≡_, refl, sym, ap, _∙_}
-use mathlib.Core.Bool.{true}
+use mathlib.Core.Bool.{Bool, true, false}
 use mathlib.Core.List.{List, [], _∷_, _++_, append-assoc, append-nil}
 use native.Mathlib.Omega.{arith}
 use lib.ListN.{length, length-set}
@@ -22,13 +22,13 @@ use Rattle.traps.specs.Traps.{trap-two, call-named}
 use Rattle.manager.specs.Door.{with-key, called}
 use Rattle.manager.proofs.Door.{named-two}
 use Rattle.law_opening.proofs.Ways.{Checked, open-channel-where-done}
-use Rattle.law_opening.proofs.Queues.{a-new-channel-is-live, a-new-channel-is-empty}
+use Rattle.law_opening.proofs.Queues.{a-new-number-was-dead, a-new-channel-is-live, a-new-channel-is-empty}
 use Rattle.law_queues.specs.Lists.{bytes-at}
-use Rattle.law_promises.specs.History.{Event, after, run}
+use Rattle.law_promises.specs.History.{after, run}
 use Rattle.law_promises.proofs.Done.{where-the-call-is-done}
 use Rattle.law_promises.proofs.Door.{call-keeps-sound}
 use Rattle.law_promises.proofs.History.{event-keeps-sound, live-after-the-first}
-use Rattle.law_bytes.specs.Order.{fetched-by, sent-by, fetched-from, sent-to, OrderOfBytes, NewChannel, OpeningMakesAnEmptyQueue, InOrderSince, OrderSinceTheOpening}
+use Rattle.law_bytes.specs.Order.{fetched-by, sent-by, fetched-from, sent-to, OrderOfBytes, NewChannel, OpeningMakesAnEmptyQueue, OrderSinceTheOpening}
 use Rattle.law_bytes.proofs.Events.{event-keeps-the-order}
 
 pub order-of-bytes : OrderOfBytes
@@ -43,6 +43,11 @@ order-of-bytes p s n (e ∷ events) a l =
     ∙ ap (λ (x : List ℕ). x ++ sent-to n events q) (event-keeps-the-order p s n e a m)
     ∙ append-assoc (bytes-at p n) (sent-by n e p) (sent-to n events q)
 
+-- a test that cannot pass
+otherwise : (b : Bool) → (b ≡ true → ⊥) → b ≡ false
+otherwise true n = absurd (n refl)
+otherwise false n = refl
+
 -- the registers after an opening
 opened-A0 : (o c v : ℕ) (d : List ℕ) → length d ≡ 8 → A0 (put (channel-registers o c d) 0 v) ≡ c
 unfolding channel-registers
@@ -54,13 +59,13 @@ module _ (p d name : List ℕ) where
   unfolding trap-two outcome
   is-the-opening e = named-two 2 p d name refl ∙ rw e
 
-  opens : sound p ≡ true → length d ≡ 8 → outcome (open-channel name) p d .key ≡ done → NewChannel (with-key (outcome (open-channel name) p d))
-  opens s l = open-channel-where-done (λ (o : Outcome). NewChannel (with-key o)) p d name (λ (c : Checked p d name).
+  opens : sound p ≡ true → length d ≡ 8 → outcome (open-channel name) p d .key ≡ done → NewChannel p (with-key (outcome (open-channel name) p d))
+  opens s l = open-channel-where-done (λ (o : Outcome). NewChannel p (with-key o)) p d name (λ (c : Checked p d name).
       let z = opened-A0 (meant p (D1 d)) (next-number p Channels) (bits done) d l in
-      record { lives = rw z (a-new-channel-is-live p d name s c); empty = rw z (a-new-channel-is-empty p d name s c) })
+      record { new = rw z (otherwise (live p Channels (next-number p Channels)) (a-new-number-was-dead p d name s c)); lives = rw z (a-new-channel-is-live p d name s c); empty = rw z (a-new-channel-is-empty p d name s c) })
 
 pub opening-makes-an-empty-queue : OpeningMakesAnEmptyQueue
-opening-makes-an-empty-queue p d name e = where-the-call-is-done 2 p d name NewChannel
+opening-makes-an-empty-queue p d name e = where-the-call-is-done 2 p d name (NewChannel p)
     (λ l s _ k. let z = is-the-opening p d name e in rw z (opens p d name s l (rw z at k)))
 
 pub order-since-the-opening : OrderSinceTheOpening

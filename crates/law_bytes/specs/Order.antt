@@ -57,13 +57,14 @@ abbrev pub OrderOfBytes : Type 0
 OrderOfBytes = (p : List ℕ) → sound p ≡ true → (n : ℕ) (events : List Event) → live p Channels n ≡ true → live (run events p) Channels n ≡ true
     → fetched-from n events p ++ bytes-at (run events p) n ≡ bytes-at p n ++ sent-to n events p
 
--- the channel that an opening answers in A0 is live, and no byte waits
-pub record NewChannel (o : Outcome) : Type 0 where
+-- the channel that an opening of p answers in A0 is new, it is live, and no byte waits
+pub record NewChannel (p : List ℕ) (o : Outcome) : Type 0 where
+  pub new : live p Channels (A0 (o .registers)) ≡ false
   pub lives : live (o .picture) Channels (A0 (o .registers)) ≡ true
   pub empty : bytes-at (o .picture) (A0 (o .registers)) ≡ []
 
 abbrev pub OpeningMakesAnEmptyQueue : Type 0
-OpeningMakesAnEmptyQueue = (p d name : List ℕ) → word d 0 ≡ 0x1 → called 2 p d name .key ≡ done → NewChannel (called 2 p d name)
+OpeningMakesAnEmptyQueue = (p d name : List ℕ) → word d 0 ≡ 0x1 → called 2 p d name .key ≡ done → NewChannel p (called 2 p d name)
 
 -- the bytes fetched from the channel that o answers in A0, and then those that wait, are those sent to it, in order:
 -- over any history after o through which the channel lives

@@ -1,7 +1,7 @@
 -- Closing a channel leaves every other channel's queue as it was.
 use Prim.Native.Nat.{ℕ}
 use mathlib.Core.Path.{_≡_, refl, sym, ap, _∙_}
-use mathlib.Core.Bool.{true, false}
+use mathlib.Core.Bool.{true}
 use mathlib.Core.Logic.{⊎-elim, by-cases}
 use mathlib.Core.List.{List}
 use native.Mathlib.Omega.{arith}
@@ -11,9 +11,8 @@ use Rattle.picture.specs.Records.{number, base-field}
 use Rattle.picture.specs.Numbers.{position, live}
 use Rattle.picture.specs.declared.Table.the-variants.{Channels}
 use Rattle.picture.specs.declared.Area.the-variants.{Heap}
-use Rattle.picture.proofs.Numbers.{Live, live-is}
+use Rattle.picture.proofs.Numbers.{live-is}
 use Rattle.sound.specs.Sound.{sound}
-use Rattle.sound_facts.proofs.Sound.{Sound}
 use Rattle.sound_facts.proofs.View.{view}
 use Rattle.calls.specs.Outcome.{Outcome}
 use Rattle.calls.specs.Call.{outcome}
@@ -24,7 +23,7 @@ use Rattle.channels.specs.Effects.{queue-of, closed}
 use Rattle.channels.specs.Calls.{close-channel}
 use Rattle.channels.proofs.Found.{live-below}
 use Rattle.law_queues.specs.Lists.{bytes-at}
-use Rattle.law_queues.proofs.Stays.{QueueStays, a-queue-that-stays-keeps-its-bytes, a-queue-is-a-block-in-use}
+use Rattle.law_queues.proofs.Stays.{a-queue-that-stays-keeps-its-bytes, a-queue-is-a-block-in-use}
 use Rattle.law_queues.proofs.Lists.{queues-differ}
 use Rattle.law_channels.proofs.Closed.{lies, closed-change, field-old, used-gone}
 use Rattle.law_channels.proofs.Close.{close-channel-ways}

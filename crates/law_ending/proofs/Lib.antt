@@ -6,6 +6,9 @@ pub mod Lie
 pub mod Owned
 pub mod Sound
 pub mod Calls
+pub mod OfTheTree
+pub mod Leaving
+pub mod Taking
 pub mod Promise
 pub mod Refusal
 pub mod Bench

@@ -1,21 +1,20 @@
 -- Opening a channel leaves every queue as it was; the new channel is live, and its queue is empty.
-use Prim.Native.Nat.{ℕ, _+_, _*_, _/_, _%_, _≤_, _<_}
+use Prim.Native.Nat.{ℕ, _+_, _<_}
 use mathlib.Core.Path.{_≡_, refl, sym, ap, _∙_}
-use mathlib.Core.Bool.{true, false}
+use mathlib.Core.Bool.{true}
 use mathlib.Core.Logic.{⊎-elim}
 use mathlib.Core.List.{List, []}
 use native.Mathlib.Omega.{arith}
 use Rattle.words.proofs.Tests.{false-true}
 use Rattle.picture.specs.Layout.{positions}
 use Rattle.picture.specs.Records.{number, used, slot, number-field, base-field}
-use Rattle.picture.specs.Numbers.{position, live, free-position}
+use Rattle.picture.specs.Numbers.{tag, position, live, free-position}
 use Rattle.picture.specs.declared.Table.the-variants.{Channels}
 use Rattle.picture.specs.declared.Area.the-variants.{Heap}
-use Rattle.picture.proofs.Numbers.{Live, live-is, is-live}
+use Rattle.picture.proofs.Numbers.{live-is, is-live}
 use Rattle.blocks.specs.Header.{queue-count-field, queue-count}
 use Rattle.sound_matching.proofs.Counts.{Matches}
 use Rattle.sound.specs.Sound.{sound}
-use Rattle.sound_facts.proofs.Sound.{Sound}
 use Rattle.sound_facts.proofs.View.{has-block-used}
 use Rattle.calls.specs.Outcome.{Outcome}
 use Rattle.calls.specs.Call.{outcome}
@@ -23,7 +22,7 @@ use Rattle.calls.specs.Registers.{D1, meant}
 use Rattle.law_blocks.proofs.Placing.{None, Only}
 use Rattle.law_blocks.proofs.Intact.{Intact, change-keeps-every-other-block}
 use Rattle.entering.specs.Entry.{next-tag, next-number}
-use Rattle.law_entering.proofs.Kept.{number-position}
+use Rattle.law_entering.proofs.Kept.{number-position, number-tag}
 use Rattle.names.specs.Names.{number-in, named}
 use Rattle.names.proofs.Digits.{number-some, number-small}
 use Rattle.queues.specs.Ring.{contents}
@@ -86,6 +85,15 @@ module _ (p d s : List ℕ) (h : sound p ≡ true) (c : Checked p d s) where
 
   new-position : position (next-number p Channels) ≡ k
   new-position = number-position (next-tag p Channels) k (let t = there in omega arith)
+
+  -- its tag is greater than any given before
+  pub a-new-number-was-dead : live p Channels (next-number p Channels) ≡ true → ⊥
+  a-new-number-was-dead l =
+      let L = live-is p Channels (next-number p Channels) l in
+      let g = the.S p o n h (c .place) (c .tagged) (c .room) .channels .entries .given (position (next-number p Channels)) (L .used) in
+      let z : tag (number p Channels (position (next-number p Channels))) ≡ tag (next-number p Channels) = ap tag (L .names) in
+      let w = number-tag (next-tag p Channels) k (let t = there in omega arith) in
+      omega arith
 
   pub a-new-channel-is-live : live q Channels (next-number p Channels) ≡ true
   a-new-channel-is-live = is-live q Channels (next-number p Channels) (record {

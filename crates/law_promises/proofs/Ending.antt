@@ -1,28 +1,28 @@
 -- Ending takes the tree and no more: a call that answers 0 passed the door and its checks, so it did what ending a tree does.
-use Prim.Native.Nat.{ℕ, suc}
-use mathlib.Core.Path.{_≡_, refl, sym, ap, _∙_, subst}
+use Prim.Native.Nat.{ℕ}
+use mathlib.Core.Path.{_≡_, refl, _∙_}
 use mathlib.Core.Bool.{true}
-use mathlib.Core.Logic.{_⊎_, inl, inr}
+use mathlib.Core.Logic.{inl, inr}
 use mathlib.Core.List.{List, [], _∷_}
 use native.Mathlib.Omega.{arith}
 use lib.ListN.{length}
-use Rattle.words.specs.Words.{word, put, clear}
+use Rattle.words.specs.Words.{put, clear}
 use Rattle.picture.specs.Keys.{done}
-use Rattle.picture.specs.Numbers.{position, live}
+use Rattle.picture.specs.Numbers.{live}
 use Rattle.picture.specs.declared.Table.the-variants.{Jobs}
 use Rattle.picture.proofs.Numbers.{live-is}
 use Rattle.sound.specs.Sound.{sound}
 use Rattle.calls.specs.Outcome.{Outcome, succeed}
-use Rattle.calls.specs.Call.{Call, outcome}
+use Rattle.calls.specs.Call.{outcome}
 use Rattle.calls.specs.Registers.{D1, D3, cleared, meant}
 use Rattle.ending.specs.Ended.{ended}
 use Rattle.ending.specs.Remove.{remove, force-remove}
 use Rattle.traps.specs.Traps.{trap-one, call-named}
-use Rattle.manager.specs.Door.{with-key, called}
+use Rattle.manager.specs.Door.{with-key}
 use Rattle.manager.proofs.Door.{named-one}
 use Rattle.law_ending.proofs.Promise.{ending-leaves-others, ending-takes-the-tree}
 use Rattle.law_ending.proofs.Calls.{remove-where-done, force-remove-where-done}
-use Rattle.law_promises.specs.History.{Event, run}
+use Rattle.law_promises.specs.History.{run}
 use Rattle.law_promises.specs.Ending.{top, Ends, AsksForAnEnding, EndingTakesTheTree, EndingTakesTheTreeInAnyHistory}
 use Rattle.law_promises.proofs.Done.{where-the-call-is-done}
 use Rattle.law_promises.proofs.History.{run-keeps-sound}

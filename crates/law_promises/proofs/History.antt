@@ -1,25 +1,25 @@
 -- Demand 2, over histories.
 use Prim.Native.Nat.{ℕ, _≤_}
-use mathlib.Core.Path.{_≡_, refl, sym, ap, _∙_, subst}
+use mathlib.Core.Path.{_≡_, refl, sym, _∙_, subst}
 use mathlib.Core.Bool.{Bool, true, false, cond}
-use mathlib.Core.List.{List, [], _∷_, _++_, append-assoc}
+use mathlib.Core.List.{List, [], _∷_, _++_}
 use native.Mathlib.Omega.{arith}
 use lib.ListN.{length}
 use lib.Dec.{eqb}
 use Rattle.words.specs.Words.{word}
 use Rattle.words.proofs.Tests.{false-true}
-use Rattle.picture.specs.Layout.{last-word, positions}
+use Rattle.picture.specs.Layout.{last-word}
 use Rattle.picture.specs.Records.{number, used}
 use Rattle.picture.specs.Numbers.{tag, position, live}
 use Rattle.picture.specs.Keys.{bad-parameter}
 use Rattle.picture.specs.declared.Table.{Table}
 use Rattle.picture.specs.declared.Table.the-variants.{Jobs, Channels}
-use Rattle.picture.proofs.Numbers.{Live, live-is}
+use Rattle.picture.proofs.Numbers.{live-is}
 use Rattle.sound.specs.Sound.{sound}
-use Rattle.sound_facts.proofs.Sound.{Sound, Entries}
+use Rattle.sound_facts.proofs.Sound.{Entries}
 use Rattle.sound_facts.proofs.View.{view}
 use Rattle.sound_facts.proofs.Ages.{Ages, ages-still, ages-then, stays-dead}
-use Rattle.fresh.specs.Fresh.{fresh, fresh-good}
+use Rattle.fresh.specs.Fresh.{fresh}
 use Rattle.fresh.proofs.Good.{sizes}
 use Rattle.law_fresh.proofs.Sound.{fresh-is-sound}
 use Rattle.calls.specs.Outcome.{Outcome, refuse}
@@ -29,7 +29,7 @@ use Rattle.manager.specs.Turn.{pick-picture, ticking}
 use Rattle.law_turns.proofs.Pick.{pick-ages}
 use Rattle.law_turns.proofs.Tick.{tick-ages}
 use Rattle.law_promises.specs.History.{Event, trap, pick, tick, after, run, AlwaysSound, DeadStaysDead, DeadSinceFresh, LastTagNeverFalls}
-use Rattle.law_promises.proofs.Calls.{EachCall, each-call}
+use Rattle.law_promises.proofs.Calls.{each-call}
 use Rattle.law_promises.proofs.Door.{checked-by, call-keeps-sound, pick-keeps, tick-keeps}
 use Rattle.law_jobs.proofs.Kept.{information-ages, suspend-ages, release-ages, activate-ages, set-priority-ages}
 use Rattle.law_asking.proofs.Kept.{ask-ages}

@@ -6,7 +6,7 @@ use mathlib.Core.Bool.{true, false}
 use mathlib.Core.List.{List, [], _∷_, _++_}
 use Rattle.words.specs.Words.{word}
 use Rattle.picture.specs.Layout.{last-word}
-use Rattle.picture.specs.Numbers.{tag, live}
+use Rattle.picture.specs.Numbers.{live}
 use Rattle.picture.specs.declared.Table.{Table}
 use Rattle.sound.specs.Sound.{sound}
 use Rattle.fresh.specs.Fresh.{fresh, fresh-good}

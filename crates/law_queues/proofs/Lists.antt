@@ -1,37 +1,33 @@
 -- Send appends, fetch takes the head, pending tells whether there is one, and no call on one channel touches another's queue;
 -- so bytes leave in the order in which they came.
-use Prim.Native.Nat.{ℕ, _+_, _/_, _%_, _≤_, _<_}
+use Prim.Native.Nat.{ℕ, _+_, _/_, _%_, _<_}
 use mathlib.Core.Path.{_≡_, refl, sym, ap, _∙_, subst}
 use mathlib.Core.Bool.{Bool, true, false}
 use mathlib.Core.List.{List, [], _∷_, _++_}
 use lib.ListN.{length}
 use lib.Seq.{getD-set-same}
-use native.Mathlib.Omega.{arith}
-use Rattle.words.specs.Words.{word}
 use Rattle.picture.specs.Keys.{done, not-complete}
 use Rattle.picture.specs.Records.{number}
 use Rattle.picture.specs.Numbers.{position, live}
 use Rattle.picture.specs.declared.Table.the-variants.{Channels}
-use Rattle.picture.proofs.Numbers.{Live, live-is}
+use Rattle.picture.proofs.Numbers.{live-is}
 use Rattle.sound_matching.proofs.Counts.{Matches}
-use Rattle.sound_matching.proofs.Matched.{Matched}
 use Rattle.sound.specs.Sound.{sound}
-use Rattle.sound_facts.proofs.Sound.{Sound}
 use Rattle.sound_facts.proofs.View.{view}
 use Rattle.calls.specs.Outcome.{Outcome, refuse, succeed}
 use Rattle.calls.specs.Call.{outcome}
 use Rattle.calls.proofs.Found.{channel-stands, live-channel-passes}
-use Rattle.calls.specs.Registers.{D1, A0, with-D1}
+use Rattle.calls.specs.Registers.{D1, A0}
 use Rattle.law_blocks.proofs.Tables.{TablesSame, base-same}
-use Rattle.queues.specs.Ring.{waits, full, oldest-byte, fetched, sent, contents}
+use Rattle.queues.specs.Ring.{waits, oldest-byte, fetched, sent, contents}
 use Rattle.queues.proofs.Ring.{waits-tells, fetching-takes-the-head, sending-appends}
 use Rattle.channels.specs.Effects.{queue-of, immediate}
 use Rattle.channels.specs.Calls.{pending, fetch, send}
-use Rattle.channels.proofs.Found.{Held, live-queue, live-below}
+use Rattle.channels.proofs.Found.{live-queue, live-below}
 use Rattle.law_queues.specs.Lists.{bytes-at}
 use Rattle.law_queues.proofs.Written.{Written, tables, block-same}
 use Rattle.law_queues.proofs.Ways.{queue-there, pending-ways, fetch-ways, fetch-where-done, send-ways, send-where-done}
-use Rattle.law_queues.proofs.Stays.{QueueStays, a-queue-that-stays-keeps-its-bytes}
+use Rattle.law_queues.proofs.Stays.{a-queue-that-stays-keeps-its-bytes}
 use Rattle.law_queues.proofs.Kept.{lies, header-lies, fetched-written, sent-written, low-byte}
 
 -- a channel's queue stays where it is

@@ -1,6 +1,6 @@
 -- A channel's queue keeps its bytes where the channel's record keeps its base and the block every longword.
 use Prim.Native.Nat.{ℕ, _+_, _/_, _≤_, _<_}
-use mathlib.Core.Path.{_≡_, refl, ap, _∙_}
+use mathlib.Core.Path.{_≡_, ap, _∙_}
 use mathlib.Core.Bool.{true, false}
 use mathlib.Core.List.{List}
 use native.Mathlib.Omega.{arith}
@@ -17,7 +17,7 @@ use Rattle.sound.specs.Sound.{sound}
 use Rattle.queues.specs.Ring.{contents}
 use Rattle.queues.proofs.Ring.{contents-same}
 use Rattle.channels.specs.Effects.{queue-of}
-use Rattle.channels.proofs.Found.{Held, live-queue}
+use Rattle.channels.proofs.Found.{live-queue}
 use Rattle.law_queues.specs.Lists.{bytes-at}
 
 -- the record and the block of the channel n are in q what they are in p
