@@ -42,12 +42,12 @@ pub record On (code n t : ℕ) (d : List ℕ) (k : ℤ) : Type 0 where
   pub channel : A0 d ≡ n
   pub is-done : k ≡ done
 
-on : (code n t : ℕ) (d : List ℕ) (k : ℤ) → eqb t 3 && (eqb (word d 0) code && (eqb (A0 d) n && eqZ k done)) ≡ true → On code n t d k
-on code n t d k h =
+on : (code n t : ℕ) (p d name : List ℕ) → done-on code n (trap t d name) p ≡ true → On code n t d (called t p d name .key)
+on code n t p d name h =
     let a = both (eqb t 3) _ h in
     let b = both (eqb (word d 0) code) _ (a .1) in
     let c = both (eqb (A0 d) n) _ (b .1) in
-    record { is-three = eqb-true t 3 (a .0); is-code = eqb-true (word d 0) code (b .0); channel = eqb-true (A0 d) n (c .0); is-done = eqZ-true k done (c .1) }
+    record { is-three = eqb-true t 3 (a .0); is-code = eqb-true (word d 0) code (b .0); channel = eqb-true (A0 d) n (c .0); is-done = eqZ-true (called t p d name .key) done (c .1) }
 
 all-four : (a b c e : Bool) → a ≡ true → b ≡ true → c ≡ true → e ≡ true → a && (b && (c && e)) ≡ true
 all-four a b c e w x y z = rw (w, x, y, z)
@@ -95,11 +95,11 @@ module _ (t : ℕ) (p d name : List ℕ) (s : sound p ≡ true) (n : ℕ) (lives
       go : (f g : Bool) → is-fetch n (trap t d name) p ≡ f → is-send n (trap t d name) p ≡ g
           → cond f (D1 (called t p d name .registers) ∷ []) [] ++ bytes-at (called t p d name .picture) n ≡ bytes-at p n ++ cond g ((D1 d % 256) ∷ []) []
       go true true f g =
-          let a = on 0x1 n t d (called t p d name .key) f .is-code in
-          let b = on 0x5 n t d (called t p d name .key) g .is-code in
+          let a = on 0x1 n t p d name f .is-code in
+          let b = on 0x5 n t p d name g .is-code in
           absurd (omega arith)
-      go true false f g = sym (fetch-takes (on 0x1 n t d (called t p d name .key) f)) ∙ sym (append-nil (bytes-at p n))
-      go false true f g = send-gives (on 0x5 n t d (called t p d name .key) g)
+      go true false f g = sym (fetch-takes (on 0x1 n t p d name f)) ∙ sym (append-nil (bytes-at p n))
+      go false true f g = send-gives (on 0x5 n t p d name g)
       go false false f g = call-moves-nothing-else l f g ∙ sym (append-nil (bytes-at p n))
 
 -- a pick and a tick leave every queue
