@@ -1,4 +1,4 @@
--- Demand 2: "Ending a job takes that job, its descendants and what they own, and no more": their job blocks, plain blocks, channels and queue blocks.
+-- Demand 2 (rules 80 and 81): "Ending a job takes that job, its descendants and what they own, and no more": their job blocks, plain blocks, channels and queue blocks.
 -- p is the picture before, q the picture after the tree of the job at position t was ended with the key to deliver.
 use Prim.Native.Nat.{ℕ, _+_, _*_, _/_, _≤_, _<_}
 use mathlib.Core.Path.{_≡_}

@@ -1,4 +1,4 @@
--- Demand 2: "Ending a job takes that job, its descendants and what they own, and no more", of trap 1 $4 and $5 and over any history.
+-- Demand 2 (rule 80): "Ending a job takes that job, its descendants and what they own, and no more", of trap 1 $4 and $5 and over any history.
 use Prim.Native.Nat.{ℕ}
 use mathlib.Core.Path.{_≡_}
 use mathlib.Core.Bool.{true}
