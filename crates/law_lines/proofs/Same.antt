@@ -16,7 +16,7 @@ use Rattle.program_digits.specs.declared.Read.the-variants.{Number, Nothing}
 use Rattle.program_digits.specs.Digits.{pick, digit, told, worth, digits, number, read, numbers}
 use Rattle.program_writing.specs.Texts.{capital, past, written, written-words, with-number, with-words, with-answer}
 use Rattle.law_lines.specs.Back.{NumberComesBack, AnswerComesBack}
-use Rattle.program_writing.proofs.Writer.{length-written}
+use Rattle.program_writing.proofs.Writer.{length-written, written-other}
 
 digit-capital : (d : ℕ) → d < 16 → digit (capital d) ≡ Number d
 unfolding digit capital
@@ -31,14 +31,6 @@ digit-capital d l = go (ltb d 10) refl
         let m : 10 ≤ d = ltb-false d 10 e in
         let z : d + 55 - 55 ≡ d = omega arith in
         rw (le-ltb (d + 55) 48 (omega arith), le-ltb (d + 55) 58 (omega arith), le-ltb (d + 55) 65 (omega arith), lt-ltb (d + 55) 71 (omega arith), z)
-
--- characters outside the digits written are as they were
-written-other : (s : List ℕ) (i n x k : ℕ) → (i ≤ k → i + n ≤ k) → getD (written s i n x) k 0 ≡ getD s k 0
-unfolding written
-written-other s i zero x k out = refl
-written-other s i (suc n) x k out =
-    written-other (set s (i + n) (capital (x % 16))) i n (x / 16) k (λ l. let o : i + suc n ≤ k = out l in omega arith)
-    ∙ getD-set-other s (i + n) k (capital (x % 16)) 0 (λ e. let l : i ≤ k = omega arith in let o : i + suc n ≤ k = out l in omega arith)
 
 -- the last digit written
 written-last : (s : List ℕ) (i n x : ℕ) → i + suc n ≤ length s → digit (getD (written s i (suc n) x) (i + n) 0) ≡ Number (x % 16)

@@ -1,3 +1,4 @@
 -- The laws that the functions' proofs cite.
 pub mod Ends
+pub mod Kept
 pub mod Meaning

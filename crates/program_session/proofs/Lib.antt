@@ -1,2 +1,7 @@
 -- Laws of the definitions of specs/.
 pub mod Replies
+pub mod States
+pub mod Answers
+pub mod Known
+pub mod Lines
+pub mod First

@@ -7,8 +7,15 @@ pub use room::line_room;
 pub use room::picture_room;
 pub use running::answer_all;
 
-// How far the line at hand and the output have come.
+// How far a chunk is taken, how many characters of the line at hand are kept, and how much of the output's room is used.
 pub struct Progress {
-    pub length: usize,
+    pub taken: usize,
+    pub kept: usize,
     pub used: usize,
+}
+
+// How many characters of the line at hand are kept behind a chunk, or that its answers could not be written.
+pub enum Kept {
+    Characters(usize),
+    Unwritten,
 }

@@ -1,89 +1,154 @@
+use crate::Kept;
 use crate::Progress;
 use crate::answering;
 use crate::room;
-use libc::STDIN_FILENO;
+use program_pieces::Input;
 ghost use mathlib.Core.Path.{_≡_};
-ghost use Prim.Native.Nat.{_≤_};
-ghost use lib.ListN.{length};
+ghost use mathlib.Core.List.{_++_};
+ghost use Prim.Native.Nat.{_+_, _≤_};
+ghost use lib.ListN.{length, take};
+ghost use Rattle.program_session.specs.Session.{first-picture as firstPicture};
+ghost use Rattle.program_session.specs.Pieces.{with-line as withLine};
+ghost use Rattle.program_session.specs.Rooms.{longest-answer as longestAnswer, Roomy, Answered, Taken, TakenAll, Known, Given, Reached};
 
-// Answers a line.
-fn answer_line(p: &mut [u32], line: &[u8], out: &mut [u8], used: usize) -> usize {
+// The most characters that an answer has.
+const LONGEST_ANSWER: usize = 65;
+
+// Says that the input failed.
+fn say_unread() {
+    program_pieces::say_unread(b"session");
+}
+
+// Says that the output failed.
+fn say_unwritten() {
+    program_pieces::say_unwritten(b"session");
+}
+
+// Answers a line, behind what is used of the output's room, and answers how much is used then.
+fn answer_line(p: &mut [u32], line: &[u8], out: &mut [u8], used: usize) -> usize
+    requires { ⌜ used + longestAnswer ≤ length (now out) ⌝ }
+    ensures { λ r. ⌜ Answered (now (line .entry)) (now (p .entry)) (now (p .exit)) (now (out .entry)) used (now (out .exit)) r ⌝ }
+{
     let mut registers = room::registers_room();
     let count = answering::answer(p, line, &mut registers);
-    let start = program_pieces::with_room(out, used);
-    program_writing::write_answer(out, start, &registers[..count])
+    program_writing::write_answer(out, used, &registers[..count])
 }
 
 // Answers the line that a part of a chunk ends, straight from the chunk where nothing of it is kept.
-fn take(p: &mut [u32], part: &[u8], progress: Progress, line: &mut [u8], out: &mut [u8]) -> Progress
-    requires { ⌜ progress .length ≤ length (now line) ⌝ }
-    ensures { λ r. ⌜ r .length ≡ 0 ⌝ }
-{
-    let kept = progress.length;
-    let used = progress.used;
-    if kept == 0 {
-        let end = answer_line(p, part, out, used);
-        return Progress {
-            length: 0,
-            used: end,
-        };
-    }
-    let whole = program_lines::keep(part, kept, line);
-    let end = answer_line(p, &line[..whole], out, used);
-    Progress {
-        length: 0,
-        used: end,
-    }
-}
-
-// Answers the lines that end in a chunk, writes the answers out, and keeps what stands behind the last line feed.
-fn take_all(
+fn answer_part(
     p: &mut [u32],
-    chunk: &[u8],
-    progress: Progress,
+    part: &[u8],
+    kept: usize,
     line: &mut [u8],
     out: &mut [u8],
-) -> Progress
-    requires { ⌜ progress .length ≤ length (now line) ⌝ }
-    ensures { λ r. ⌜ r .length ≤ length (now (line .entry)) ⌝ }
+    used: usize,
+) -> usize
+    requires { ⌜ kept ≤ length (now line) ⌝ }
+    requires { ⌜ Roomy (now line) (now out) ⌝ }
+    requires { ⌜ used + longestAnswer ≤ length (now out) ⌝ }
+    ensures { λ r. ⌜ Answered (take kept (now (line .entry)) ++ now (part .entry)) (now (p .entry)) (now (p .exit)) (now (out .entry)) used (now (out .exit)) r ⌝ }
 {
-    let mut now = progress;
+    if kept == 0 {
+        return answer_line(p, part, out, used);
+    }
+    let whole = program_lines::keep(part, kept, line);
+    answer_line(p, &line[..whole], out, used)
+}
+
+// Answers the lines that end in a chunk, up to its end, where what stands behind the last line feed is kept, or until little room is left for answers.
+fn take_lines(p: &mut [u32], chunk: &[u8], kept: usize, line: &mut [u8], out: &mut [u8]) -> Progress
+    requires { ⌜ kept ≤ length (now line) ⌝ }
+    requires { ⌜ Roomy (now line) (now out) ⌝ }
+    ensures { λ r. ⌜ Taken (withLine (now (p .entry)) (take kept (now (line .entry)))) (now (chunk .entry)) (r .taken) (now (p .exit)) (now (line .exit)) (r .kept) (now (out .exit)) (r .used) ⌝ }
+{
+    let mut filled = kept;
+    let mut used = 0;
     let mut start = 0;
     loop {
         let end = program_lines::line_end(chunk, start);
         if end == chunk.len() {
             break;
         }
-        now = take(p, &chunk[start..end], now, line, out);
+        used = answer_part(p, &chunk[start..end], filled, line, out, used);
+        filled = 0;
         start = end + 1;
+        if out.len() - used < LONGEST_ANSWER {
+            return Progress {
+                taken: start,
+                kept: 0,
+                used: used,
+            };
+        }
     }
-    program_pieces::write_out(out, now.used);
     Progress {
-        length: program_lines::keep(&chunk[start..], now.length, line),
-        used: 0,
+        taken: chunk.len(),
+        kept: program_lines::keep(&chunk[start..], filled, line),
+        used: used,
     }
 }
 
-// Answers what stands behind the last line feed.
-fn finish(p: &mut [u32], progress: Progress, line: &[u8], out: &mut [u8])
-    requires { ⌜ progress .length ≤ length (now line) ⌝ }
+// Writes out a piece: the text that a piece of input gives, after the input before it.
+fn write_piece(out: &[u8], used: usize) -> bool
+    requires { ⌜ Given (take used (now out)) ⌝ }
 {
-    let kept = progress.length;
+    program_pieces::write_out(out, used)
+}
+
+// Takes a chunk of the input, and writes out what it gives, in as many pieces as the output's room asks for.
+fn take_all(p: &mut [u32], chunk: &[u8], kept: usize, line: &mut [u8], out: &mut [u8]) -> Kept
+    requires { ⌜ kept ≤ length (now line) ⌝ }
+    requires { ⌜ Roomy (now line) (now out) ⌝ }
+    requires { ⌜ Known (now p) (take kept (now line)) ⌝ }
+    ensures { λ r. ⌜ TakenAll (withLine (now (p .entry)) (take kept (now (line .entry)))) (now (chunk .entry)) (now (p .exit)) (now (line .exit)) r ⌝ }
+{
+    let mut filled = kept;
+    let mut start = 0;
+    while start < chunk.len() {
+        let progress = take_lines(p, &chunk[start..], filled, line, out);
+        if !write_piece(out, progress.used) {
+            return Kept::Unwritten;
+        }
+        filled = progress.kept;
+        start += progress.taken;
+    }
+    Kept::Characters(filled)
+}
+
+// The end of input: answers what stands behind the last line feed.
+fn finish(p: &mut [u32], kept: usize, line: &[u8], out: &mut [u8])
+    requires { ⌜ kept ≤ length (now line) ⌝ }
+    requires { ⌜ Roomy (now line) (now out) ⌝ }
+    requires { ⌜ Known (now p) (take kept (now line)) ⌝ }
+    ensures { λ _. ⌜ Reached (now (p .exit)) ⌝ }
+{
     if kept == 0 {
         return;
     }
-    let used = answer_line(p, &line[..kept], out, progress.used);
-    program_pieces::write_out(out, used);
+    let used = answer_line(p, &line[..kept], out, 0);
+    if !write_piece(out, used) {
+        say_unwritten();
+    }
 }
 
 // Answers each line of standard input, in the rooms that are lent. There are more turns than any run uses up.
-pub fn answer_all(p: &mut [u32], chunk: &mut [u8], line: &mut [u8], out: &mut [u8]) {
-    let mut progress = Progress { length: 0, used: 0 };
+pub fn answer_all(p: &mut [u32], chunk: &mut [u8], line: &mut [u8], out: &mut [u8])
+    requires { ⌜ now p ≡ firstPicture ⌝ }
+    requires { ⌜ Roomy (now line) (now out) ⌝ }
+    ensures { λ _. ⌜ Reached (now (p .exit)) ⌝ }
+{
+    let mut kept = 0;
     let mut turns = u64::MAX;
     while 0 < turns {
-        let got = io::count(libc::read(STDIN_FILENO, chunk), chunk);
-        progress = take_all(p, &chunk[..got], progress, line, out);
+        let Input::Characters(got) = program_pieces::read_in(chunk) else {
+            say_unread();
+            return;
+        };
+        let Kept::Characters(filled) = take_all(p, &chunk[..got], kept, line, out) else {
+            say_unwritten();
+            return;
+        };
+        kept = filled;
         turns = program_pieces::turns_after(turns, got);
     }
-    finish(p, progress, line, out);
+    finish(p, kept, line, out);
 }

@@ -1,16 +1,16 @@
 -- Laws of digits and words as they are written. Assumes nothing.
 use mathlib.Core.Path.{_≡_, refl, sym, ap, _∙_}
 use mathlib.Core.Bool.{Bool, true, false}
-use mathlib.Core.List.{List, [], _∷_}
+use mathlib.Core.List.{List, [], _∷_, _++_, append-nil, append-assoc}
 use lib.Dec.{leb}
 use borrow.Author.Tests.{le-leb, lt-leb, leb-true, leb-false}
 use Prim.Native.Nat.{ℕ, zero, suc, _+_, _-_, _*_, _/_, _%_, _<_, _≤_}
 use native.Mathlib.Numerals.{add-one}
 use native.Mathlib.Omega.{arith}
-use lib.ListN.{length, getD, set, drop, length-set, drop-of-length-le}
-use lib.Seq.{drop-cons}
+use lib.ListN.{length, getD, set, take, drop, length-set, drop-of-length-le}
+use lib.Seq.{drop-cons, take-suc, take-set-le, take-suc-set, getD-set-same, getD-set-other}
 use Rattle.program_digits.specs.Digits.{pick}
-use Rattle.program_writing.specs.Texts.{capital, past, written, written-words, with-words}
+use Rattle.program_writing.specs.Texts.{capital, past, written, written-words, with-words, with-answer, spelled, spelled-words, answer-text}
 
 -- one digit more to write, and none
 module _ (s : List ℕ) (i k x : ℕ) where
@@ -73,3 +73,45 @@ past-inside s i n l = go (leb (i + n) (length s)) refl
     go : (b : Bool) → leb (i + n) (length s) ≡ b → pick b (i + n) i ≤ length s
     go true e = leb-true (i + n) (length s) e
     go false e = l
+
+-- characters outside the digits written are as they were
+pub written-other : (s : List ℕ) (i n x k : ℕ) → (i ≤ k → i + n ≤ k) → getD (written s i n x) k 0 ≡ getD s k 0
+unfolding written
+written-other s i zero x k out = refl
+written-other s i (suc n) x k out =
+    written-other (set s (i + n) (capital (x % 16))) i n (x / 16) k (λ l. let o : i + suc n ≤ k = out l in omega arith)
+    ∙ getD-set-other s (i + n) k (capital (x % 16)) 0 (λ e. let l : i ≤ k = omega arith in let o : i + suc n ≤ k = out l in omega arith)
+
+-- behind what stands before them, the digits written are the number as it is spelled
+digits-behind : (s : List ℕ) (i n x : ℕ) → i + n ≤ length s → take (i + n) (written s i n x) ≡ take i s ++ spelled n x
+unfolding written spelled
+digits-behind s i zero x l = let z : i + 0 ≡ i = omega arith in rw (z, append-nil)
+digits-behind s i (suc n) x l =
+    let c = capital (x % 16) in
+    let t = set s (i + n) c in
+    let z : i + suc n ≡ suc (i + n) = omega arith in
+    let m : i + n < length (written t i n (x / 16)) = rw (length-written t i n (x / 16), length-set s (i + n) c) (omega arith) in
+    let f : i + n ≤ length t = rw (length-set s (i + n) c) (omega arith) in
+    rw (z, take-suc (written t i n (x / 16)) (i + n) 0 m, digits-behind t i n (x / 16) f, written-other t i n (x / 16) (i + n) (λ k. omega arith), getD-set-same s (i + n) c 0 (omega arith), take-set-le i s (i + n) c (omega arith), append-assoc)
+
+words-behind : (s : List ℕ) (i : ℕ) (ws : List ℕ) → i + 8 * length ws ≤ length s → take (i + 8 * length ws) (written-words s i ws) ≡ take i s ++ spelled-words ws
+unfolding written-words spelled-words
+words-behind s i [] l = let z : i + 0 ≡ i = omega arith in rw (z, append-nil)
+words-behind s i (x ∷ ws) l =
+    let t = written s i 8 x in
+    let z : i + 8 * suc (length ws) ≡ i + 8 + 8 * length ws = omega arith in
+    let f : i + 8 + 8 * length ws ≤ length t = rw (length-written s i 8 x) (omega arith) in
+    rw (z, words-behind t (i + 8) ws f, digits-behind s i 8 x (omega arith), append-assoc)
+
+-- an answer that fits stands behind what stood before it
+pub answer-behind : (s : List ℕ) (i : ℕ) (ws : List ℕ) → i + 8 * length ws < length s → take (i + 8 * length ws + 1) (with-answer s i ws) ≡ take i s ++ answer-text ws
+unfolding with-answer with-words past answer-text
+answer-behind s i ws l =
+    let t = written-words s i ws in
+    let e = i + 8 * length ws in
+    let f : e < length t = rw (length-words s i ws) (omega arith) in
+    rw (le-leb e (length s) (omega arith), add-one e, take-suc-set t e 10 f, words-behind s i ws (omega arith), append-assoc)
+
+pub answer-past : (s : List ℕ) (i : ℕ) (ws : List ℕ) → i + 8 * length ws < length s → past s (past s i (8 * length ws)) 1 ≡ i + 8 * length ws + 1
+unfolding past
+answer-past s i ws l = rw (le-leb (i + 8 * length ws) (length s) (omega arith), le-leb (i + 8 * length ws + 1) (length s) (omega arith))

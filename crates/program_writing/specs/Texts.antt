@@ -1,7 +1,7 @@
--- Hexadecimal as it is written (rule 112): capitals, at a place of a text that is lent.
+-- Hexadecimal as it is written (rule 112): capitals, by itself and at a place of a text that is lent.
 use Prim.Native.Nat.{ℕ, zero, suc, _+_, _*_, _/_, _%_}
 use mathlib.Core.Bool.{Bool}
-use mathlib.Core.List.{List, [], _∷_}
+use mathlib.Core.List.{List, [], _∷_, _++_}
 use lib.Dec.{leb, ltb}
 use lib.ListN.{length, set}
 use Rattle.program_digits.specs.Digits.{pick}
@@ -9,6 +9,20 @@ use Rattle.program_digits.specs.Digits.{pick}
 -- the character of a digit
 unfoldable pub capital : ℕ → ℕ
 capital d = pick (ltb d 10) (d + 48) (d + 55)
+
+-- the last n digits of x, highest first
+unfoldable pub spelled : ℕ → ℕ → List ℕ
+spelled zero x = []
+spelled (suc n) x = spelled n (x / 16) ++ capital (x % 16) ∷ []
+
+-- words, eight digits each
+unfoldable pub spelled-words : List ℕ → List ℕ
+spelled-words [] = []
+spelled-words (x ∷ xs) = spelled 8 x ++ spelled-words xs
+
+-- an answer: words and a line feed
+unfoldable pub answer-text : List ℕ → List ℕ
+answer-text xs = spelled-words xs ++ 10 ∷ []
 
 -- n characters from place i on lie in the text
 abbrev pub fits : List ℕ → ℕ → ℕ → Bool
@@ -35,6 +49,6 @@ with-number s i n x = pick (fits s i n) (written s i n x) s
 unfoldable pub with-words : List ℕ → ℕ → List ℕ → List ℕ
 with-words s i xs = pick (fits s i (8 * length xs)) (written-words s i xs) s
 
--- rule 108: an answer: words and a line feed
+-- the text with an answer from place i on
 unfoldable pub with-answer : List ℕ → ℕ → List ℕ → List ℕ
 with-answer s i xs = set (with-words s i xs) (past s i (8 * length xs)) 10

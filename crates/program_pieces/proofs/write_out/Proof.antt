@@ -6,7 +6,7 @@ use Rattle.program_pieces.proofs.write_out.Statement.{statement}
 use Rattle.program_pieces.proofs.write_out.Tie as tie
 
 slice-aggregate-write-all : tie.Need-slice-aggregate-write-all
-slice-aggregate-write-all c = sym (length-take-le _ _ (c .before .if1 .taken))
+slice-aggregate-write-all c = sym (length-take-le _ _ (c .before .if1 .left))
 
 write-all-requires : tie.Need-write-all-requires
 write-all-requires c κs = search needs
@@ -18,4 +18,4 @@ returns-2 : tie.Need-returns-2
 returns-2 c = search needs
 
 pub write-out-spec : {M : Type 1} → statement M
-write-out-spec = tie.close (tie.spec slice-aggregate-write-all write-all-requires returns returns-2)
+write-out-spec = tie.close (tie.spec returns slice-aggregate-write-all write-all-requires returns-2)

@@ -1,40 +1,56 @@
--- `program_session::running::answer_line` meets its contract: a reply lies in the registers' room. Assumes nothing.
+-- `program_session::running::answer_line` meets its contract: a reply lies in the registers' room, and its text is written behind what is used. Assumes nothing.
 use mathlib.Core.Path.{sym}
+use native.Mathlib.Omega.{arith}
 use lib.Seq.{length-take-le}
 use Rattle.program_session.proofs.Replies.{within}
+use Rattle.program_session.proofs.Answers.{reply-answers}
 use borrow.Author.Needs.{needs}
 use Rattle.program_session.proofs.running.answer_line.Statement.{statement}
 use Rattle.program_session.proofs.running.answer_line.Tie as tie
+use Rattle.program_session.proofs.running.answer_line.Reads as reads
+use Rattle.program_session.proofs.running.answer_line.Lts as lts
+use Rattle.program_session.proofs.answering.answer.Reads as answer-reads
+use Rattle.program_session.proofs.room.registers_room.Reads as registers-room-reads
+use Rattle.program_writing.proofs.write_answer.Reads as write-answer-reads
 
+-- src/running.rt:32:25
 registers-room-requires : tie.Need-registers-room-requires
 registers-room-requires c κs = search needs
 
+-- src/running.rt:33:44
 slice-aggregate-answer : tie.Need-slice-aggregate-answer
 slice-aggregate-answer c = search needs
 
+-- src/running.rt:33:9
 answer-requires : tie.Need-answer-requires
 answer-requires c κs = search needs
 
-with-room-requires : tie.Need-with-room-requires
-with-room-requires c κs = search needs
-
+-- src/running.rt:34:46
 array-share-prefix-registers : tie.Need-array-share-prefix-registers
-array-share-prefix-registers c = within _ _ _ _ _ (c .before .before .before .before .before .before .answer .ensures)
+array-share-prefix-registers c = within _ _ _ _ _ (c .before .before .before .before .answer .ensures)
 
+-- src/running.rt:34:46
 slice-aggregate-write-answer : tie.Need-slice-aggregate-write-answer
-slice-aggregate-write-answer c = sym (length-take-le _ _ (within _ _ _ _ _ (c .before .before .before .before .before .before .before .answer .ensures)))
+slice-aggregate-write-answer c = sym (length-take-le _ _ (within _ _ _ _ _ (c .before .before .before .before .before .answer .ensures)))
 
+-- src/running.rt:34:5
 write-answer-requires : tie.Need-write-answer-requires
 write-answer-requires c κs = search needs
 
+-- src/running.rt:28:1
 same-length : tie.Need-same-length
 same-length c = search needs
 
+-- src/running.rt:28:1
 same-length-2 : tie.Need-same-length-2
 same-length-2 c = search needs
 
+-- src/running.rt:28:1
 returns : tie.Need-returns
-returns c = search needs
+returns c = let s = c .before .before .before .before .before .before .before .before .before .before .before .before .before .before .before in
+    let r = c .before .before .before .before .before .before .before .before .answer in
+    let w = c .before .before .write-answer in
+    rw (w .ensures .1, w .ensures .0) (reply-answers (s .args .line .now) (s .args .p .now) (r .last .0) _ _ (s .args .out .now) (r .result) (s .args .used) (r .ensures) (omega (arith, within _ _ _ _ _ (r .ensures), c .before .before .before .before .before .before .before .before .before .before .before .registers-room .ensures, r .kept .1 .1 .0)) (s .pre))
 
 pub answer-line-spec : {M : Type 1} → statement M
 answer-line-spec =
@@ -43,7 +59,6 @@ answer-line-spec =
     registers-room-requires
     slice-aggregate-answer
     answer-requires
-    with-room-requires
     array-share-prefix-registers
     slice-aggregate-write-answer
     write-answer-requires

@@ -1,84 +1,108 @@
--- `program_session::running::take_all` meets its contract: the rooms keep their lengths and the line stays within its own; the measure is what is left of the chunk. Assumes nothing.
-use mathlib.Core.Path.{_≡_, refl, _∙_}
-use Prim.Native.Nat.{_≤_, _<_, _-_}
-use lib.ListN.{length}
+-- `program_session::running::take_all` meets its contract: what is held after each piece is the state after the characters taken, so that what is written out is what they give; the measure is what is left of the chunk. Assumes nothing.
+use Rattle.program_session.proofs.Lines.{come-first, piece-held, piece-length, all-held}
+use Rattle.program_session.proofs.Known.{known-after, known-gives}
+use mathlib.Core.Path.{_≡_, refl, sym, _∙_}
+use Prim.Native.Nat.{_+_, _≤_, _<_, _-_}
+use lib.ListN.{length, take, drop}
+use Rattle.program_session.specs.Pieces.{with-line, after}
+use Rattle.program_session.specs.Rooms.{Roomy, Held, Known}
 use borrow.Author.Needs.{needs}
 use native.Mathlib.Omega.{arith}
 use Rattle.program_session.proofs.running.take_all.Statement.{statement}
 use Rattle.program_session.proofs.running.take_all.Tie as tie
+use Rattle.program_session.proofs.running.take_all.Reads as reads
+use Rattle.program_session.proofs.running.take_all.Lts as lts
+use Rattle.program_session.proofs.running.take_lines.Reads as take-lines-reads
+use Rattle.program_session.proofs.running.write_piece.Reads as write-piece-reads
 
 abbrev Inv-loop : tie.InvT-loop
-Inv-loop p₀ chunk line₀ out₀ now₀ start₀ p line out now start =
-    (start ≤ length chunk) × (now .length ≤ length line) × (length p ≡ length p₀) × (length line ≡ length line₀) × (length out ≡ length out₀)
+Inv-loop p₀ chunk kept line₀ out₀ filled₀ start₀ p line out filled start = (start ≤ length chunk) × (filled ≤ length line) × (Roomy line out) × (Held (after (with-line p₀ (take kept line₀)) (take start chunk)) p (take filled line)) × (length p ≡ length p₀) × (length line ≡ length line₀) × (length out ≡ length out₀)
 
 abbrev μ-loop : tie.MeasureT-loop
-μ-loop p₀ chunk line₀ out₀ now₀ start₀ p line out now start = length chunk - start
+μ-loop p₀ chunk kept line₀ out₀ filled₀ start₀ p line out filled start = length chunk - start
 
--- a line feed stands in the chunk, behind the line's start
-inside : (c : tie.Else1 Inv-loop μ-loop) → (c .before .before .loop .start ≤ c .before .line-end .result) × (c .before .line-end .result < length (c .before .before .before .before .before .before .before .args .chunk .now))
-inside c =
-    let e = c .before .line-end .ensures .1 in
-    let m : c .before .line-end .result ≤ length (c .before .before .before .before .before .before .before .args .chunk .now) = e .1 (c .before .before .loop .inv .0) in
-    (e .0, omega (arith, c .if1 .left))
-
+-- src/running.rt:106:5
 loop-holds : tie.Need-loop-holds Inv-loop μ-loop
-loop-holds c = let s = c .before .before .before .before in (omega arith, s .pre, refl, refl, refl)
+loop-holds c = let s = c .before .before .before .before in (omega arith, s .pre .0, s .pre .1 .0, come-first (s .args .p .now) (s .args .line .now) (s .args .kept) (s .args .chunk .now) (s .args .out .now) (s .pre .0) (s .pre .1 .0) .holds, refl, refl, refl)
 
-line-end-requires : tie.Need-line-end-requires Inv-loop μ-loop
-line-end-requires c κs = search needs
+-- src/running.rt:107:38
+sub-take-lines : tie.Need-sub-take-lines Inv-loop μ-loop
+sub-take-lines c = search needs
 
-sub-take : tie.Need-sub-take Inv-loop μ-loop
-sub-take c = omega (arith, inside (c .before))
+-- src/running.rt:107:38
+part-take-lines-start : tie.Need-part-take-lines-start Inv-loop μ-loop
+part-take-lines-start c = search needs
 
-part-take-start : tie.Need-part-take-start Inv-loop μ-loop
-part-take-start c = omega (arith, inside (c .before))
+-- src/running.rt:107:38
+part-take-lines-end : tie.Need-part-take-lines-end Inv-loop μ-loop
+part-take-lines-end c = search needs
 
-part-take-end : tie.Need-part-take-end Inv-loop μ-loop
-part-take-end c = omega (arith, inside (c .before))
+-- src/running.rt:107:13
+take-lines-requires : tie.Need-take-lines-requires Inv-loop μ-loop
+take-lines-requires c κs = let d = c .before .before .before .before .before .loop in (d .inv .1, d .inv .2)
 
-take-requires : tie.Need-take-requires Inv-loop μ-loop
-take-requires c κs = c .before .before .before .before .before .before .loop .inv .1
+-- src/running.rt:108:13
+write-piece-requires : tie.Need-write-piece-requires Inv-loop μ-loop
+write-piece-requires c κs = let s = c .before .before .before .before .before .before .before .before .before .before .before .before .before .before .before .before .before .before in
+    let d = c .before .before .before .before .before .before .before .before .before .before .before .before .before .loop in
+    known-gives _ _ (known-after _ _ (s .pre .1 .1) _ _ _ (d .inv .3)) _ _ (c .before .before .before .before .before .before .before .take-lines .ensures .puts)
 
-add-start : tie.Need-add-start Inv-loop μ-loop
-add-start c = omega (arith, inside (c .before .before .before .before .before .before .before .before .before .before .before))
-
-loop-less : tie.Need-loop-less Inv-loop μ-loop
-loop-less c = omega (arith, inside (c .before .before .before .before .before .before .before .before .before .before .before))
-
-loop-again : tie.Need-loop-again Inv-loop μ-loop
-loop-again c =
-    let t = c .before .before .before .before .before .before .take in
-    let e = c .before .before .before .before .before .before .before .before .before .before .before in
-    let d = e .before .before .loop in
-    let k = t .kept .1 .1 .1 in
-    (omega (arith, inside e), omega (arith, t .ensures), t .kept .0 ∙ d .inv .2, k .0 ∙ d .inv .3, k .1 .0 ∙ d .inv .4)
-
-write-out-requires : tie.Need-write-out-requires Inv-loop μ-loop
-write-out-requires c κs = search needs
-
-sub-keep : tie.Need-sub-keep Inv-loop μ-loop
-sub-keep c = search needs
-
-part-keep-start : tie.Need-part-keep-start Inv-loop μ-loop
-part-keep-start c = search needs
-
-part-keep-end : tie.Need-part-keep-end Inv-loop μ-loop
-part-keep-end c = search needs
-
-keep-requires : tie.Need-keep-requires Inv-loop μ-loop
-keep-requires c κs = search needs
-
+-- src/running.rt:109:13
 same-length : tie.Need-same-length Inv-loop μ-loop
 same-length c = search needs
 
+-- src/running.rt:109:13
 same-length-2 : tie.Need-same-length-2 Inv-loop μ-loop
 same-length-2 c = search needs
 
+-- src/running.rt:109:13
 same-length-3 : tie.Need-same-length-3 Inv-loop μ-loop
 same-length-3 c = search needs
 
+-- src/running.rt:109:13
 returns : tie.Need-returns Inv-loop μ-loop
-returns c = let k = c .before .before in let d = k .before .before .before .before .before .before .before .loop in rw (d .inv .3) at (k .keep .ensures .0 .1)
+returns c = let s = c .before .before .before .before .before .before .before .before .before .before .before .before .before .before .before .before .before .before .before .before in
+    let d = c .before .before .before .before .before .before .before .before .before .before .before .before .before .before .before .loop in
+    let t = c .before .before .before .before .before .before .before .before .before .take-lines in
+    (take (d .start + t .result .taken) (s .args .chunk .now), piece-held _ (s .args .chunk .now) (d .start) _ _ (d .inv .3) (t .result .taken) _ _ (t .ensures .holds) .pictures)
+
+-- src/running.rt:112:9
+add-start : tie.Need-add-start Inv-loop μ-loop
+add-start c = search needs
+
+-- src/running.rt:106:5
+loop-less : tie.Need-loop-less Inv-loop μ-loop
+loop-less c = let s = c .before .before .before .before .before .before .before .before .before .before .before .before .before .before .before .before .before .before .before .before .before in
+    let d = c .before .before .before .before .before .before .before .before .before .before .before .before .before .before .before .before .loop in
+    let t = c .before .before .before .before .before .before .before .before .before .before .take-lines in
+    let l : length (take (length (s .args .chunk .now) - d .start) (drop (d .start) (s .args .chunk .now))) ≡ length (s .args .chunk .now) - d .start = piece-length (s .args .chunk .now) (d .start) in
+    let m : 0 < t .result .taken = t .ensures .some (rw l (omega (arith, c .before .before .before .before .before .before .before .before .before .before .before .before .before .before .before .loop-test .taken))) in
+    omega (arith, c .before .before .before .before .before .before .before .before .before .before .before .before .before .before .before .loop-test .taken)
+
+-- src/running.rt:106:5
+loop-again : tie.Need-loop-again Inv-loop μ-loop
+loop-again c = let s = c .before .before .before .before .before .before .before .before .before .before .before .before .before .before .before .before .before .before .before .before .before in
+    let d = c .before .before .before .before .before .before .before .before .before .before .before .before .before .before .before .before .loop in
+    let t = c .before .before .before .before .before .before .before .before .before .before .take-lines in
+    let k = t .kept .1 .1 .1 in
+    let l : length (take (length (s .args .chunk .now) - d .start) (drop (d .start) (s .args .chunk .now))) ≡ length (s .args .chunk .now) - d .start = piece-length (s .args .chunk .now) (d .start) in
+    (omega (arith, t .ensures .inside), t .ensures .short, record { for-line = d .inv .2 .for-line ∙ sym (k .0); for-answer = omega (arith, d .inv .2 .for-answer, k .1 .0) }, piece-held _ (s .args .chunk .now) (d .start) _ _ (d .inv .3) (t .result .taken) _ _ (t .ensures .holds), t .kept .0 ∙ d .inv .4, k .0 ∙ d .inv .5, k .1 .0 ∙ d .inv .6)
+
+-- src/running.rt:98:1
+same-length-4 : tie.Need-same-length-4 Inv-loop μ-loop
+same-length-4 c = search needs
+
+-- src/running.rt:98:1
+same-length-5 : tie.Need-same-length-5 Inv-loop μ-loop
+same-length-5 c = search needs
+
+-- src/running.rt:98:1
+same-length-6 : tie.Need-same-length-6 Inv-loop μ-loop
+same-length-6 c = search needs
+
+-- src/running.rt:98:1
+returns-2 : tie.Need-returns-2 Inv-loop μ-loop
+returns-2 c = let d = c .before .loop in (d .inv .1, all-held _ _ _ _ _ (d .inv .3) (c .loop-test .left))
 
 pub take-all-spec : {M : Type 1} → statement M
 take-all-spec =
@@ -87,20 +111,19 @@ take-all-spec =
     Inv-loop
     μ-loop
     loop-holds
-    line-end-requires
-    sub-take
-    part-take-start
-    part-take-end
-    take-requires
-    add-start
-    loop-less
-    loop-again
-    write-out-requires
-    sub-keep
-    part-keep-start
-    part-keep-end
-    keep-requires
+    sub-take-lines
+    part-take-lines-start
+    part-take-lines-end
+    take-lines-requires
+    write-piece-requires
     same-length
     same-length-2
     same-length-3
-    returns)
+    returns
+    add-start
+    loop-less
+    loop-again
+    same-length-4
+    same-length-5
+    same-length-6
+    returns-2)

@@ -1,0 +1,3 @@
+-- The session's laws.
+pub mod Cut
+pub mod Case

@@ -1,0 +1,3 @@
+-- The statements.
+pub mod Cut
+pub mod Case

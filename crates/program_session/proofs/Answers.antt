@@ -1,0 +1,36 @@
+-- A line's answer as it stands in the output's room. Assumes nothing.
+use Prim.Native.Nat.{ℕ, _+_, _*_, _≤_, _<_, min}
+use mathlib.Core.Path.{_≡_, refl, sym, ap, subst, _∙_}
+use mathlib.Core.List.{List, [], _∷_, _++_}
+use native.Mathlib.Omega.{arith}
+use lib.ListN.{length, take}
+use lib.Seq.{sets, take-take}
+use Rattle.program_writing.specs.Texts.{past, with-answer, answer-text}
+use Rattle.program_writing.proofs.Writer.{answer-behind, answer-past}
+use Rattle.program_lines.specs.Frames.{frame}
+use Rattle.program_lines.proofs.Kept.{kept-in-room}
+use Rattle.program_session.specs.Reply.{reply, Replied}
+use Rattle.program_session.specs.Session.{line-text, line-picture}
+use Rattle.program_session.specs.Rooms.{most-kept, longest-answer, Answered}
+use Rattle.program_session.proofs.States.{same-text, same-picture}
+
+-- a reply of at most eight longwords, written where there is room for it, answers its line
+pub reply-answers : (line p q e d a : List ℕ) (r n : ℕ) → Replied (reply (frame line) p) r q e d → r ≤ 8 → n + longest-answer ≤ length a
+    → Answered line p q a n (with-answer a n (take r d)) (past a (past a n (8 * length (take r d))) 1)
+unfolding line-text line-picture
+reply-answers line p q e d a r n h l m =
+    let ws = reply (frame line) p .longwords in
+    let k : length ws ≤ 8 = omega (arith, h .counts) in
+    let f : n + 8 * length ws < length a = omega arith in
+    rw (h .gives, answer-past a n ws f)
+    (record { leaves = h .leaves; puts = answer-behind a n ws f; within = omega arith })
+
+-- a line is answered by what is kept of it
+pub kept-answers : (line part p q a : List ℕ) (k n : ℕ) (b : List ℕ) (r : ℕ) → most-kept ≡ length line → k ≤ length line
+    → Answered (take (min (length line) (k + length part)) (sets line k part)) p q a n b r → Answered (take k line ++ part) p q a n b r
+kept-answers line part p q a k n b r e l h =
+    let s = take (min (length line) (k + length part)) (sets line k part) in
+    let t = take k line ++ part in
+    let x : s ≡ take most-kept t = rw e (kept-in-room line k part l) in
+    let y : take most-kept s ≡ take most-kept t = ap (take most-kept) x ∙ take-take most-kept most-kept t (omega arith) in
+    record { leaves = h .leaves ∙ same-picture s t y p; puts = h .puts ∙ ap (λ (u : List ℕ). take n a ++ u) (same-text s t y p); within = h .within }

@@ -1,0 +1,38 @@
+-- What is held after some input, as a piece of input or its end goes on from there. Assumes nothing.
+use Prim.Native.Nat.{ℕ, _+_}
+use mathlib.Core.Path.{_≡_, refl, sym, ap, _∙_}
+use mathlib.Core.List.{List, [], _∷_, _++_, append-nil}
+use lib.ListN.{take}
+use Rattle.program_session.specs.Session.{first-picture, line-text, line-picture}
+use Rattle.program_session.specs.Pieces.{State, with-line, start, step, step-text, after, gives}
+use Rattle.program_session.specs.Rooms.{Held, Known, Given, Reached}
+use Rattle.program_session.proofs.States.{after-append, gives-append, held-gives, held-after, held-picture}
+
+-- before any input the first picture is held, and nothing is kept
+pub known-first : (p : List ℕ) → p ≡ first-picture → Known p []
+unfolding start after
+known-first p e = ([], record { pictures = e; keeps = refl })
+
+module _ (p k : List ℕ) (h : Known p k) where
+  -- a piece on
+  pub known-gives : (s t : List ℕ) → t ≡ gives (with-line p k) s → Given t
+  known-gives s t e = (h .0, s, e ∙ held-gives (after start (h .0)) p k (h .1) s)
+
+  pub known-after : (s q l : List ℕ) → Held (after (with-line p k) s) q l → Known q l
+  known-after s q l g = (h .0 ++ s, rw (after-append start (h .0) s) (held-after (after start (h .0)) p k (h .1) s q l g))
+
+  pub known-picture : (s q : List ℕ) → q ≡ after (with-line p k) s .picture → Reached q
+  known-picture s q e = (h .0 ++ s, e ∙ held-picture (after start (h .0)) p k (h .1) s ∙ ap (λ (a : State). a .picture) (sym (after-append start (h .0) s)))
+
+  -- no further
+  pub known-reached : Reached p
+  known-reached = (h .0, h .1 .pictures)
+
+  -- the end of input, where a line is kept
+  pub known-last : (t : List ℕ) → t ≡ line-text k p → Given t
+  unfolding gives step-text
+  known-last t e = known-gives (10 ∷ []) t (e ∙ sym (append-nil (line-text k p)))
+
+  pub known-end : (q : List ℕ) → q ≡ line-picture k p → Reached q
+  unfolding after step
+  known-end q e = known-picture (10 ∷ []) q e

@@ -1,0 +1,59 @@
+-- A session in the rooms that are lent: the picture, the line as far as it is kept, and the output's text.
+use Prim.Native.Nat.{ℕ, _+_, _≤_, _<_}
+use mathlib.Core.Path.{_≡_}
+use mathlib.Core.List.{List, _++_}
+use lib.ListN.{length, take}
+use Rattle.program_session.specs.declared.Kept.{Kept}
+use Rattle.program_session.specs.declared.Kept.the-variants.{Characters, Unwritten}
+use Rattle.program_session.specs.Session.{first-picture, line-text, line-picture}
+use Rattle.program_session.specs.Pieces.{State, with-line, start, after, gives}
+
+-- how much of a line is kept: one character more than a good line may have
+abbrev pub most-kept : ℕ
+most-kept = 513
+
+-- an answer has at most eight longwords, of eight digits each, and a line feed
+abbrev pub longest-answer : ℕ
+longest-answer = 65
+
+-- the rooms for the line and for the output have these lengths
+pub record Roomy (line out : List ℕ) : Type 0 where
+  pub for-line : most-kept ≡ length line
+  pub for-answer : longest-answer ≤ length out
+
+-- a state is held: p is its picture, and k is what is kept of its line
+pub record Held (a : State) (p k : List ℕ) : Type 0 where
+  pub pictures : p ≡ a .picture
+  pub keeps : k ≡ take most-kept (a .line)
+
+-- a line is answered: q is the picture that it leaves of p, and its text stands behind the first n characters of a in b, of which r are used
+pub record Answered (line p q a : List ℕ) (n : ℕ) (b : List ℕ) (r : ℕ) : Type 0 where
+  pub leaves : q ≡ line-picture line p
+  pub puts : take r b ≡ take n a ++ line-text line p
+  pub within : r ≤ n + longest-answer
+
+-- the first n characters of a piece are taken: the state after them is held in q and the first k characters of d, and what they give is the first r characters of b
+pub record Taken (a : State) (s : List ℕ) (n : ℕ) (q d : List ℕ) (k : ℕ) (b : List ℕ) (r : ℕ) : Type 0 where
+  pub inside : n ≤ length s
+  pub some : 0 < length s → 0 < n
+  pub short : k ≤ length d
+  pub holds : Held (after a (take n s)) q (take k d)
+  pub fits : r ≤ length b
+  pub puts : take r b ≡ gives a (take n s)
+
+-- a piece is taken, or the output failed on the way
+abbrev pub TakenAll : State → List ℕ → List ℕ → List ℕ → Kept → Type 0
+TakenAll a s q d (Characters k) = (k ≤ length d) × (Held (after a s) q (take k d))
+TakenAll a s q d Unwritten = (t : List ℕ) × (q ≡ after a t .picture)
+
+-- what is held is the state after some input
+abbrev pub Known : List ℕ → List ℕ → Type 0
+Known p k = (input : List ℕ) × (Held (after start input) p k)
+
+-- a text is what some piece of input gives after some input
+abbrev pub Given : List ℕ → Type 0
+Given text = (input : List ℕ) × (piece : List ℕ) × (text ≡ gives (after start input) piece)
+
+-- a picture is the one after some input
+abbrev pub Reached : List ℕ → Type 0
+Reached p = (input : List ℕ) × (p ≡ after start input .picture)
