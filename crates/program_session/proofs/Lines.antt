@@ -3,14 +3,14 @@ use Prim.Native.Nat.{ℕ, suc, _+_, _-_, _≤_, _<_, min}
 use mathlib.Core.Path.{_≡_, refl, sym, ap, _∙_}
 use mathlib.Core.List.{List, [], _∷_, _++_, append-nil}
 use native.Mathlib.Omega.{arith}
-use lib.ListN.{length, take, drop, length-take, length-drop, take-append-drop}
+use lib.ListN.{length, length-append, take, drop, length-take, length-drop, take-append-drop}
 use lib.Seq.{sets, take-all, take-add, take-length, length-take-le}
 use Rattle.program_lines.specs.Feeds.{before-feed, line-end}
 use Rattle.program_lines.proofs.Kept.{kept-more, kept-in-room}
 use Rattle.program_session.specs.Session.{line-text, line-picture}
 use Rattle.program_session.specs.Pieces.{State, with-line, after, gives}
-use Rattle.program_session.specs.Rooms.{most-kept, longest-answer, Roomy, Held, Answered, Taken}
-use Rattle.program_session.proofs.States.{after-append, gives-append, ends-line, ends-text, goes-on, says-nothing, same-text, same-picture, held-after}
+use Rattle.program_session.specs.Rooms.{most-kept, longest-answer, counted, Roomy, Held, Answered, Taken}
+use Rattle.program_session.proofs.States.{after-append, gives-append, ends-line, ends-text, goes-on, says-nothing, same-text, same-picture, held-gives, held-after}
 
 -- n characters of s are taken from a on: the state is held in p and the first k characters of d, and b begins with r characters of what they give, with room for an answer more
 pub record Come (a : State) (s : List ℕ) (n : ℕ) (p d : List ℕ) (k : ℕ) (b : List ℕ) (r : ℕ) : Type 0 where
@@ -89,12 +89,29 @@ module _ (a : State) (s : List ℕ) (n : ℕ) (p d : List ℕ) (k : ℕ) (b : Li
     pub rest-puts : take r b ≡ gives a (take (length s) s)
     rest-puts = h .puts ∙ sym (append-nil (gives a (take n s))) ∙ ap (λ (u : List ℕ). gives a (take n s) ++ u) (sym (says-nothing (after a (take n s)) (drop n s) no-feed)) ∙ sym (ap (gives a) whole ∙ gives-append a (take n s) (drop n s))
 
+two-counts : (v w n u : ℕ) → w ≡ counted (v + n) → counted (w + u) ≡ counted (v + (n + u))
+two-counts v w n u e = omega arith
+
 -- a chunk taken in pieces: what is held after n characters of it, and after m characters more
 module _ (a : State) (s : List ℕ) (n : ℕ) (p k : List ℕ) (h : Held (after a (take n s)) p k) where
   pub piece-held : (m : ℕ) (q l : List ℕ) → Held (after (with-line p k) (take m (take (length s - n) (drop n s)))) q l → Held (after a (take (n + m) s)) q l
   piece-held m q l g =
       let u : take (length s - n) (drop n s) ≡ drop n s = take-all (length s - n) (drop n s) (rw (length-drop n s) (omega arith)) in
       rw (take-add n m s, after-append a (take n s) (take m (drop n s))) (held-after (after a (take n s)) p k h (take m (drop n s)) q l (rw u at g))
+
+  -- what those characters give, counted
+  pub piece-counts : (m v w x u : ℕ) (b : List ℕ) → w ≡ counted (v + length (gives a (take n s))) → take u b ≡ gives (with-line p k) (take m (take (length s - n) (drop n s))) → u ≤ length b → x ≡ counted (w + u)
+      → x ≡ counted (v + length (gives a (take (n + m) s)))
+  piece-counts m v w x u b f g l e =
+      let r : take (length s - n) (drop n s) ≡ drop n s = take-all (length s - n) (drop n s) (rw (length-drop n s) (omega arith)) in
+      let z : u ≡ length (gives (after a (take n s)) (take m (drop n s))) =
+      sym (length-take-le u b l) ∙ ap length (g ∙ ap (λ (t : List ℕ). gives (with-line p k) (take m t)) r ∙ held-gives (after a (take n s)) p k h (take m (drop n s))) in
+      let y : length (gives a (take (n + m) s)) ≡ length (gives a (take n s)) + u =
+      ap length (ap (gives a) (take-add n m s) ∙ gives-append a (take n s) (take m (drop n s))) ∙ length-append (gives a (take n s)) (gives (after a (take n s)) (take m (drop n s))) ∙ ap (λ (t : ℕ). length (gives a (take n s)) + t) (sym z) in
+      e ∙ two-counts v w (length (gives a (take n s))) u f ∙ ap (λ (t : ℕ). counted (v + t)) (sym y)
+
+  pub all-counts : length s ≤ n → (v w : ℕ) → w ≡ counted (v + length (gives a (take n s))) → w ≡ counted (v + length (gives a s))
+  all-counts l v w e = rw (take-all n s l) at e
 
   pub all-held : length s ≤ n → Held (after a s) p k
   all-held l = rw (take-all n s l) at h

@@ -1,5 +1,5 @@
 -- A session in the rooms that are lent: the picture, the line as far as it is kept, and the output's text.
-use Prim.Native.Nat.{ℕ, _+_, _≤_, _<_}
+use Prim.Native.Nat.{ℕ, _+_, _%_, _^_, _≤_, _<_}
 use mathlib.Core.Path.{_≡_}
 use mathlib.Core.List.{List, _++_}
 use lib.ListN.{length, take}
@@ -41,18 +41,22 @@ pub record Taken (a : State) (s : List ℕ) (n : ℕ) (q d : List ℕ) (k : ℕ)
   pub fits : r ≤ length b
   pub puts : take r b ≡ gives a (take n s)
 
--- a piece is taken, or the output failed on the way
-abbrev pub TakenAll : State → List ℕ → List ℕ → List ℕ → Kept → Type 0
-TakenAll a s q d (Characters k) = (k ≤ length d) × (Held (after a s) q (take k d))
-TakenAll a s q d Unwritten = (t : List ℕ) × (q ≡ after a t .picture)
+-- a count of characters written, which comes round at 2^64
+abbrev pub counted : ℕ → ℕ
+counted n = n % 2 ^ 64
 
--- what is held is the state after some input
-abbrev pub Known : List ℕ → List ℕ → Type 0
-Known p k = (input : List ℕ) × (Held (after start input) p k)
+-- a piece is taken, and as many characters more are written as it gives; or the output failed on the way
+abbrev pub TakenAll : State → List ℕ → List ℕ → List ℕ → ℕ → ℕ → Kept → Type 0
+TakenAll a s q d v w (Characters k) = (k ≤ length d) × (Held (after a s) q (take k d)) × (w ≡ counted (v + length (gives a s)))
+TakenAll a s q d v w Unwritten = (t : List ℕ) × (q ≡ after a t .picture)
 
--- a text is what some piece of input gives after some input
-abbrev pub Given : List ℕ → Type 0
-Given text = (input : List ℕ) × (piece : List ℕ) × (text ≡ gives (after start input) piece)
+-- what is held is the state after some input, and w counts the characters that this input gives
+abbrev pub Known : List ℕ → List ℕ → ℕ → Type 0
+Known p k w = (input : List ℕ) × (Held (after start input) p k) × (w ≡ counted (length (gives start input)))
+
+-- a text is what some piece of input gives after some input, and w counts the characters that this input gives: so it is the next of the whole output behind w characters
+abbrev pub Given : List ℕ → ℕ → Type 0
+Given text w = (input : List ℕ) × (piece : List ℕ) × (text ≡ gives (after start input) piece) × (w ≡ counted (length (gives start input)))
 
 -- a picture is the one after some input
 abbrev pub Reached : List ℕ → Type 0

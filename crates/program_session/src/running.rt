@@ -9,7 +9,7 @@ ghost use Prim.Native.Nat.{_+_, _≤_};
 ghost use lib.ListN.{length, take};
 ghost use Rattle.program_session.specs.Session.{first-picture as firstPicture};
 ghost use Rattle.program_session.specs.Pieces.{with-line as withLine};
-ghost use Rattle.program_session.specs.Rooms.{longest-answer as longestAnswer, Roomy, Answered, Taken, TakenAll, Known, Given, Reached};
+ghost use Rattle.program_session.specs.Rooms.{longest-answer as longestAnswer, counted, Roomy, Answered, Taken, TakenAll, Known, Given, Reached};
 
 // The most characters that an answer has.
 const LONGEST_ANSWER: usize = 65;
@@ -87,25 +87,34 @@ fn take_lines(p: &mut [u32], chunk: &[u8], kept: usize, line: &mut [u8], out: &m
     }
 }
 
-// Writes out a piece: the text that a piece of input gives, after the input before it.
-fn write_piece(out: &[u8], used: usize) -> bool
-    requires { ⌜ Given (take used (now out)) ⌝ }
+// Writes out a piece: the text that a piece of input gives after the input before it. It is the next of the output behind the characters that are written already.
+fn write_piece(out: &[u8], used: usize, written: &mut u64) -> bool
+    requires { ⌜ Given (take used (now out)) (now written) ⌝ }
+    ensures { λ _. ⌜ now (written .exit) ≡ counted (now (written .entry) + used) ⌝ }
 {
+    *written = std::num::wrapping_add_u64(*written, used as u64);
     program_pieces::write_out(out, used)
 }
 
 // Takes a chunk of the input, and writes out what it gives, in as many pieces as the output's room asks for.
-fn take_all(p: &mut [u32], chunk: &[u8], kept: usize, line: &mut [u8], out: &mut [u8]) -> Kept
+fn take_all(
+    p: &mut [u32],
+    chunk: &[u8],
+    kept: usize,
+    line: &mut [u8],
+    out: &mut [u8],
+    written: &mut u64,
+) -> Kept
     requires { ⌜ kept ≤ length (now line) ⌝ }
     requires { ⌜ Roomy (now line) (now out) ⌝ }
-    requires { ⌜ Known (now p) (take kept (now line)) ⌝ }
-    ensures { λ r. ⌜ TakenAll (withLine (now (p .entry)) (take kept (now (line .entry)))) (now (chunk .entry)) (now (p .exit)) (now (line .exit)) r ⌝ }
+    requires { ⌜ Known (now p) (take kept (now line)) (now written) ⌝ }
+    ensures { λ r. ⌜ TakenAll (withLine (now (p .entry)) (take kept (now (line .entry)))) (now (chunk .entry)) (now (p .exit)) (now (line .exit)) (now (written .entry)) (now (written .exit)) r ⌝ }
 {
     let mut filled = kept;
     let mut start = 0;
     while start < chunk.len() {
         let progress = take_lines(p, &chunk[start..], filled, line, out);
-        if !write_piece(out, progress.used) {
+        if !write_piece(out, progress.used, written) {
             return Kept::Unwritten;
         }
         filled = progress.kept;
@@ -115,17 +124,17 @@ fn take_all(p: &mut [u32], chunk: &[u8], kept: usize, line: &mut [u8], out: &mut
 }
 
 // The end of input: answers what stands behind the last line feed.
-fn finish(p: &mut [u32], kept: usize, line: &[u8], out: &mut [u8])
+fn finish(p: &mut [u32], kept: usize, line: &[u8], out: &mut [u8], written: &mut u64)
     requires { ⌜ kept ≤ length (now line) ⌝ }
     requires { ⌜ Roomy (now line) (now out) ⌝ }
-    requires { ⌜ Known (now p) (take kept (now line)) ⌝ }
+    requires { ⌜ Known (now p) (take kept (now line)) (now written) ⌝ }
     ensures { λ _. ⌜ Reached (now (p .exit)) ⌝ }
 {
     if kept == 0 {
         return;
     }
     let used = answer_line(p, &line[..kept], out, 0);
-    if !write_piece(out, used) {
+    if !write_piece(out, used, written) {
         say_unwritten();
     }
 }
@@ -137,18 +146,20 @@ pub fn answer_all(p: &mut [u32], chunk: &mut [u8], line: &mut [u8], out: &mut [u
     ensures { λ _. ⌜ Reached (now (p .exit)) ⌝ }
 {
     let mut kept = 0;
+    let mut written = 0;
     let mut turns = u64::MAX;
     while 0 < turns {
         let Input::Characters(got) = program_pieces::read_in(chunk) else {
             say_unread();
             return;
         };
-        let Kept::Characters(filled) = take_all(p, &chunk[..got], kept, line, out) else {
+        let Kept::Characters(filled) = take_all(p, &chunk[..got], kept, line, out, &mut written)
+        else {
             say_unwritten();
             return;
         };
         kept = filled;
         turns = program_pieces::turns_after(turns, got);
     }
-    finish(p, kept, line, out);
+    finish(p, kept, line, out, &mut written);
 }

@@ -20,10 +20,10 @@ use Rattle.program_session.proofs.running.say_unwritten.Reads as say-un
 use Rattle.program_session.proofs.running.take_all.Reads as take-all-reads
 
 abbrev Inv-loop : tie.InvT-loop
-Inv-loop p₀ chunk₀ line₀ out₀ kept₀ turns₀ p chunk line out kept turns = (kept ≤ length line) × (Roomy line out) × (Known p (take kept line)) × (length p ≡ length p₀) × (length chunk ≡ length chunk₀) × (length line ≡ length line₀) × (length out ≡ length out₀)
+Inv-loop p₀ chunk₀ line₀ out₀ kept₀ written₀ turns₀ p chunk line out kept written turns = (kept ≤ length line) × (Roomy line out) × (Known p (take kept line) written) × (length p ≡ length p₀) × (length chunk ≡ length chunk₀) × (length line ≡ length line₀) × (length out ≡ length out₀)
 
 abbrev μ-loop : tie.MeasureT-loop
-μ-loop p₀ chunk₀ line₀ out₀ kept₀ turns₀ p chunk line out kept turns = turns
+μ-loop p₀ chunk₀ line₀ out₀ kept₀ written₀ turns₀ p chunk line out kept written turns = turns
 
 -- src/running.rt:141:5
 loop-holds : tie.Need-loop-holds Inv-loop μ-loop
@@ -63,7 +63,7 @@ same-length-4 c = search needs
 
 -- src/running.rt:144:13
 returns : tie.Need-returns Inv-loop μ-loop
-returns c = known-reached _ _ (c .before .before .before .before .before .before .before .before .loop .inv .2)
+returns c = known-reached _ _ _ (c .before .before .before .before .before .before .before .before .loop .inv .2)
 
 -- src/running.rt:146:52
 slice-reshare-prefix-take-all : tie.Need-slice-reshare-prefix-take-all Inv-loop μ-loop
@@ -75,7 +75,7 @@ slice-aggregate-take-all c = (rw (c .before .before .before .got .given .1) at (
 
 -- src/running.rt:146:40
 take-all-requires : tie.Need-take-all-requires Inv-loop μ-loop
-take-all-requires c κs = let d = c .before .before .before .before .before .before .before .before .before .before .before .before .loop in (d .inv .0, (d .inv .1, d .inv .2))
+take-all-requires c κs = let d = c .before .before .before .before .before .before .before .before .before .before .before .before .before .loop in (d .inv .0, (d .inv .1, d .inv .2))
 
 -- src/running.rt:146:30
 enum-known-filled : tie.Need-enum-known-filled Inv-loop μ-loop
@@ -108,7 +108,7 @@ same-length-8 c = search needs
 -- src/running.rt:148:13
 returns-2 : tie.Need-returns-2 Inv-loop μ-loop
 returns-2 c = let t = rw (c .before .enum-told2 .given .1) at (c .before .before .before .before .before .before .before .before .before .take-all .ensures) in
-    known-picture _ _ (c .before .before .before .before .before .before .before .before .before .before .before .before .before .before .before .before .before .before .before .before .before .before .loop .inv .2) (t .0) _ (t .1)
+    known-picture _ _ _ (c .before .before .before .before .before .before .before .before .before .before .before .before .before .before .before .before .before .before .before .before .before .before .before .loop .inv .2) (t .0) _ (t .1)
 
 -- src/running.rt:151:9
 turns-after-requires : tie.Need-turns-after-requires Inv-loop μ-loop
@@ -120,15 +120,15 @@ loop-less c = search needs
 
 -- src/running.rt:141:5
 loop-again : tie.Need-loop-again Inv-loop μ-loop
-loop-again c = let d = c .before .before .before .before .before .before .before .before .before .before .before .before .before .before .before .before .before .before .before .before .before .before .before .loop in
+loop-again c = let d = c .before .before .before .before .before .before .before .before .before .before .before .before .before .before .before .before .before .before .before .before .before .before .before .before .loop in
     let t = c .before .before .before .before .before .before .before .before .before .before .take-all in
     let k = t .kept .1 .1 .1 in
     let h = rw (c .before .before .filled .given .1) at (t .ensures) in
-    (h .0, record { for-line = d .inv .1 .for-line ∙ sym (k .0); for-answer = omega (arith, d .inv .1 .for-answer, k .1 .0) }, known-after _ _ (d .inv .2) _ _ _ (h .1), t .kept .0 ∙ d .inv .3, c .before .before .before .before .before .before .before .before .before .before .before .before .before .before .before .before .before .before .before .before .read-in .kept .0 ∙ d .inv .4, k .0 ∙ d .inv .5, k .1 .0 ∙ d .inv .6)
+    (h .0, record { for-line = d .inv .1 .for-line ∙ sym (k .0); for-answer = omega (arith, d .inv .1 .for-answer, k .1 .0) }, known-after _ _ _ (d .inv .2) _ _ _ _ (h .1) (h .2), t .kept .0 ∙ d .inv .3, c .before .before .before .before .before .before .before .before .before .before .before .before .before .before .before .before .before .before .before .before .before .read-in .kept .0 ∙ d .inv .4, k .0 ∙ d .inv .5, k .1 .0 ∙ d .inv .6)
 
 -- src/running.rt:153:5
 finish-requires : tie.Need-finish-requires Inv-loop μ-loop
-finish-requires c κs = let d = c .before .before .before .before .loop in (d .inv .0, (d .inv .1, d .inv .2))
+finish-requires c κs = let d = c .before .before .before .before .before .loop in (d .inv .0, (d .inv .1, d .inv .2))
 
 -- src/running.rt:134:1
 same-length-9 : tie.Need-same-length-9 Inv-loop μ-loop

@@ -13,7 +13,7 @@ use Rattle.program_session.proofs.running.write_piece.Reads as write-pi
 
 -- src/running.rt:125:9
 returns : tie.Need-returns
-returns c = let s = c .before .before .before .before in known-reached _ _ (s .pre .1 .1)
+returns c = let s = c .before .before .before .before in known-reached _ _ _ (s .pre .1 .1)
 
 -- src/running.rt:127:31
 slice-aggregate-answer-line : tie.Need-slice-aggregate-answer-line
@@ -25,7 +25,7 @@ answer-line-requires c κs = search needs
 
 -- src/running.rt:128:9
 write-piece-requires : tie.Need-write-piece-requires
-write-piece-requires c κs = let s = c .before .before .before .before .before .before .before .before .before .before .before .before .before in known-last _ _ (s .pre .1 .1) _ (c .before .before .before .before .before .answer-line .ensures .puts)
+write-piece-requires c κs = let s = c .before .before .before .before .before .before .before .before .before .before .before .before .before .before in known-last _ _ _ (s .pre .1 .1) _ (c .before .before .before .before .before .before .answer-line .ensures .puts)
 
 -- src/running.rt:129:9
 say-unwritten-requires : tie.Need-say-unwritten-requires
@@ -41,7 +41,7 @@ same-length-2 c = search needs
 
 -- src/running.rt:118:1
 returns-2 : tie.Need-returns-2
-returns-2 c = let s = c .before .before .before .before .before .before .before .before .before .before .before .before .before .before .before .before in known-end _ _ (s .pre .1 .1) _ (c .before .before .before .before .before .before .before .before .answer-line .ensures .leaves)
+returns-2 c = let s = c .before .before .before .before .before .before .before .before .before .before .before .before .before .before .before .before .before in known-end _ _ _ (s .pre .1 .1) _ (c .before .before .before .before .before .before .before .before .before .answer-line .ensures .leaves)
 
 -- src/running.rt:118:1
 same-length-3 : tie.Need-same-length-3
@@ -53,7 +53,7 @@ same-length-4 c = search needs
 
 -- src/running.rt:118:1
 returns-3 : tie.Need-returns-3
-returns-3 c = let s = c .before .before .before .before .before .before .before .before .before .before .before .before .before .before .before in known-end _ _ (s .pre .1 .1) _ (c .before .before .before .before .before .before .before .answer-line .ensures .leaves)
+returns-3 c = let s = c .before .before .before .before .before .before .before .before .before .before .before .before .before .before .before .before in known-end _ _ _ (s .pre .1 .1) _ (c .before .before .before .before .before .before .before .before .answer-line .ensures .leaves)
 
 pub finish-spec : {M : Type 1} → statement M
 finish-spec =
