@@ -6,13 +6,16 @@ use libc::STDERR_FILENO;
 use libc::STDIN_FILENO;
 use libc::STDOUT_FILENO;
 
-// A room is written out once fewer characters than this are left in it.
-const SPARE: usize = 512;
-
 // What a read gave: so many characters, none at the end of input, or nothing, since it failed.
 pub enum Input {
     Characters(usize),
     Failed,
+}
+
+// How many characters of the line at hand are kept behind a piece of input, or that its answers could not be written.
+pub enum Kept {
+    Characters(usize),
+    Unwritten,
 }
 
 // Reads characters of standard input into the start of a room.
@@ -32,18 +35,6 @@ pub fn write_out(room: &[u8], used: usize) -> bool {
         return false;
     }
     io::write_all(STDOUT_FILENO, &room[..used])
-}
-
-// Writes a room out where little of it is left, and answers how much of it is used then.
-pub fn with_room(room: &[u8], used: usize) -> usize {
-    if room.len() < SPARE {
-        return used;
-    }
-    if used < room.len() - SPARE {
-        return used;
-    }
-    write_out(room, used);
-    0
 }
 
 // Says of a program that its input ended in a failure.

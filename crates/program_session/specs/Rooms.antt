@@ -3,8 +3,8 @@ use Prim.Native.Nat.{ℕ, _+_, _%_, _^_, _≤_, _<_}
 use mathlib.Core.Path.{_≡_}
 use mathlib.Core.List.{List, _++_}
 use lib.ListN.{length, take}
-use Rattle.program_session.specs.declared.Kept.{Kept}
-use Rattle.program_session.specs.declared.Kept.the-variants.{Characters, Unwritten}
+use Rattle.program_pieces.specs.declared.Kept.{Kept}
+use Rattle.program_pieces.specs.declared.Kept.the-variants.{Characters, Unwritten}
 use Rattle.program_session.specs.Session.{first-picture, line-text, line-picture}
 use Rattle.program_session.specs.Pieces.{State, with-line, start, after, gives}
 

@@ -13,9 +13,3 @@ pub struct Progress {
     pub kept: usize,
     pub used: usize,
 }
-
-// How many characters of the line at hand are kept behind a chunk, or that its answers could not be written.
-pub enum Kept {
-    Characters(usize),
-    Unwritten,
-}

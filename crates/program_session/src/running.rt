@@ -1,8 +1,8 @@
-use crate::Kept;
 use crate::Progress;
 use crate::answering;
 use crate::room;
 use program_pieces::Input;
+use program_pieces::Kept;
 ghost use mathlib.Core.Path.{_≡_};
 ghost use mathlib.Core.List.{_++_};
 ghost use Prim.Native.Nat.{_+_, _≤_};

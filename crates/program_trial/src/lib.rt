@@ -5,6 +5,7 @@ mod running;
 mod telling;
 mod trying;
 
+pub use room::answer_room;
 pub use room::line_room;
 pub use running::answer_all;
 

@@ -20,8 +20,7 @@ fn write_registers(registers: &[u32], out: &mut [u8], used: usize) -> usize {
 
 // One change: what stands before it, its index and what is there now.
 fn write_change(mark: u8, index: usize, longword: u32, out: &mut [u8], used: usize) -> usize {
-    let start = program_pieces::with_room(out, used);
-    let marked = program_writing::write_character(out, start, mark);
+    let marked = program_writing::write_character(out, used, mark);
     let indexed = program_writing::write_number(out, marked, 4, (index % 65536) as u32);
     let equated = program_writing::write_character(out, indexed, b'=');
     program_writing::write_number(out, equated, 8, longword)
@@ -55,10 +54,14 @@ fn write_head(answer: Answer, registers: &[u32], out: &mut [u8]) -> usize {
 }
 
 // Answers a trial.
-pub fn write_answer(p: &[u32], before: &[u32], answer: Answer, registers: &[u32]) {
-    let mut out = io::large_buffer();
-    let listed = write_head(answer, registers, &mut out);
-    let changed = write_changes(p, before, &mut out, listed);
-    let end = program_writing::write_character(&mut out, changed, b'\n');
-    program_pieces::write_out(&out, end);
+pub fn write_answer(
+    p: &[u32],
+    before: &[u32],
+    answer: Answer,
+    registers: &[u32],
+    out: &mut [u8],
+) -> usize {
+    let listed = write_head(answer, registers, out);
+    let changed = write_changes(p, before, out, listed);
+    program_writing::write_character(out, changed, b'\n')
 }

@@ -8,6 +8,13 @@ pub fn line_room() -> [u8; 300001]
     [0; 300001]
 }
 
+// Room for an answer: a key, a blank, the longest error text in digits, and a line feed.
+pub fn answer_room() -> [u8; 300010]
+    ensures { λ r. ⌜ 300010 ≡ length r ⌝ }
+{
+    [0; 300010]
+}
+
 // Room for a picture.
 pub fn picture_room() -> [u32; 16384]
     ensures { λ r. ⌜ 16384 ≡ length r ⌝ }

@@ -3,17 +3,17 @@ ghost use mathlib.Core.Path.{_≡_};
 ghost use lib.ListN.{length};
 
 // Answers a line that is no trial.
-pub fn write_refusal() {
-    program_pieces::write_out(&[b'?', b'\n'], 2);
+pub fn write_refusal(out: &mut [u8]) -> usize {
+    let marked = program_writing::write_character(out, 0, b'?');
+    program_writing::write_character(out, marked, b'\n')
 }
 
-// The bytes of a text, two digits each, written out in pieces.
+// The bytes of a text, two digits each.
 fn write_bytes(text: &[u8], out: &mut [u8], used: usize) -> usize {
     let mut place = used;
     let mut i = 0;
     while i < text.len() {
-        let start = program_pieces::with_room(out, place);
-        place = program_writing::write_number(out, start, 2, text[i] as u32);
+        place = program_writing::write_number(out, place, 2, text[i] as u32);
         i += 1;
     }
     place
@@ -28,21 +28,19 @@ fn write_text(text: &[u8], out: &mut [u8], used: usize) -> usize {
 }
 
 // Answers with a key and a text.
-fn write_error(key: u32, text: &[u8]) {
-    let mut out = io::large_buffer();
-    let keyed = program_writing::write_number(&mut out, 0, 8, key);
-    let apart = program_writing::write_character(&mut out, keyed, b' ');
-    let told = write_text(text, &mut out, apart);
-    let end = program_writing::write_character(&mut out, told, b'\n');
-    program_pieces::write_out(&out, end);
+fn write_error(key: u32, text: &[u8], out: &mut [u8]) -> usize {
+    let keyed = program_writing::write_number(out, 0, 8, key);
+    let apart = program_writing::write_character(out, keyed, b' ');
+    let told = write_text(text, out, apart);
+    program_writing::write_character(out, told, b'\n')
 }
 
 // Asks for the text of a key, and answers with it.
-fn tell<'a>(key: u32, system: &'a [u8], driver: &'a [u8]) {
+fn tell<'a>(key: u32, system: &'a [u8], driver: &'a [u8], out: &mut [u8]) -> usize {
     let asked = words::signed_of(key);
     let answered = manager::error_key(asked, system, driver);
     let text = manager::error_text(asked, system, driver);
-    write_error(words::bits_of(answered), text);
+    write_error(words::bits_of(answered), text, out)
 }
 
 // Room for an error text: as many bytes as a line may have pairs of characters.
@@ -53,11 +51,11 @@ fn text_room() -> [u8; 150000]
 }
 
 // Answers a line that asks for an error text.
-pub fn answer_error(line: &[u8]) {
+pub fn answer_error(line: &[u8], out: &mut [u8]) -> usize {
     let mut system = text_room();
     let mut driver = text_room();
     match program_fields::read_asked(line, &mut system, &mut driver) {
-        Asked::Text(key, first, last) => tell(key, &system[..first], &driver[..last]),
-        Asked::Bad => write_refusal(),
+        Asked::Text(key, first, last) => tell(key, &system[..first], &driver[..last], out),
+        Asked::Bad => write_refusal(out),
     }
 }

@@ -52,15 +52,21 @@ fn copy(p: &[u32], room: &mut [u32]) {
 }
 
 // Makes a trial's call and answers it.
-fn try_call(p: &mut [u32], call: Call, registers: &mut [u32], field: &[u8]) {
+fn try_call(
+    p: &mut [u32],
+    call: Call,
+    registers: &mut [u32],
+    field: &[u8],
+    out: &mut [u8],
+) -> usize {
     let mut before = room::picture_room();
     copy(p, &mut before);
     let answer = make_call(p, call, registers, field);
-    report::write_answer(p, &before, answer, registers);
+    report::write_answer(p, &before, answer, registers, out)
 }
 
 // Answers a line that asks for a call.
-pub fn answer_call(line: &[u8]) {
+pub fn answer_call(line: &[u8], out: &mut [u8]) -> usize {
     let mut p = room::picture_room();
     let mut registers = room::registers_room();
     match program_fields::read_trial(&mut p, line, &mut registers) {
@@ -69,7 +75,8 @@ pub fn answer_call(line: &[u8]) {
             call,
             &mut registers[..count],
             &line[..first],
+            out,
         ),
-        Trial::Bad => telling::write_refusal(),
+        Trial::Bad => telling::write_refusal(out),
     }
 }

@@ -2,5 +2,6 @@
 fn main() {
     let mut chunk = io::large_buffer();
     let mut line = program_trial::line_room();
-    program_trial::answer_all(&mut chunk, &mut line);
+    let mut out = program_trial::answer_room();
+    program_trial::answer_all(&mut chunk, &mut line, &mut out);
 }

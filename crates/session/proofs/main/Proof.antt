@@ -6,60 +6,41 @@ use Rattle.program_session.proofs.First.{fresh-is-first}
 use borrow.Author.Needs.{needs}
 use Rattle.session.proofs.main.Statement.{statement}
 use Rattle.session.proofs.main.Tie as tie
-use Rattle.session.proofs.main.Reads as reads
-use Rattle.session.proofs.main.Lts as lts
-use Rattle.io.proofs.large_buffer.Reads as large-buffer-reads
-use Rattle.manager.proofs.fresh.Reads as fresh-reads
-use Rattle.program_session.proofs.line_room.Reads as line-room-reads
-use Rattle.program_session.proofs.picture_room.Reads as picture-room-reads
-use Rattle.program_session.proofs.answer_all.Reads as answer-all-reads
 
--- src/main.rt:9:17
 picture-room-requires : tie.Need-picture-room-requires
 picture-room-requires c κs = search needs
 
--- src/main.rt:10:21
 large-buffer-requires : tie.Need-large-buffer-requires
 large-buffer-requires c κs = search needs
 
--- src/main.rt:11:20
 line-room-requires : tie.Need-line-room-requires
 line-room-requires c κs = search needs
 
--- src/main.rt:12:19
 large-buffer-requires-2 : tie.Need-large-buffer-requires-2
 large-buffer-requires-2 c κs = search needs
 
--- src/main.rt:13:20
 slice-aggregate-fresh : tie.Need-slice-aggregate-fresh
 slice-aggregate-fresh c = search needs
 
--- src/main.rt:13:5
 fresh-requires : tie.Need-fresh-requires
 fresh-requires c κs = search needs
 
--- src/main.rt:14:33
 slice-aggregate-answer-all : tie.Need-slice-aggregate-answer-all
 slice-aggregate-answer-all c = search needs
 
--- src/main.rt:14:41
 slice-aggregate-answer-all-2 : tie.Need-slice-aggregate-answer-all-2
 slice-aggregate-answer-all-2 c = search needs
 
--- src/main.rt:14:53
 slice-aggregate-answer-all-3 : tie.Need-slice-aggregate-answer-all-3
 slice-aggregate-answer-all-3 c = search needs
 
--- src/main.rt:14:64
 slice-aggregate-answer-all-4 : tie.Need-slice-aggregate-answer-all-4
 slice-aggregate-answer-all-4 c = search needs
 
--- src/main.rt:14:5
 answer-all-requires : tie.Need-answer-all-requires
 answer-all-requires c κs = let o = c .before .before .before .before .before .before .before .large-buffer2 .ensures in
     (c .before .before .before .before .before .fresh .ensures .1 ∙ fresh-is-first (c .before .before .before .before .before .before .before .before .before .before .picture-room .result) (c .before .before .before .before .before .before .before .before .before .before .picture-room .ensures), record { for-line = c .before .before .before .before .before .before .before .before .line-room .ensures; for-answer = omega arith })
 
--- src/main.rt:8:1
 returns : tie.Need-returns
 returns c = search needs
 

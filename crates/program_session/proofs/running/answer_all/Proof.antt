@@ -10,14 +10,6 @@ use borrow.Author.Needs.{needs}
 use native.Mathlib.Omega.{arith}
 use Rattle.program_session.proofs.running.answer_all.Statement.{statement}
 use Rattle.program_session.proofs.running.answer_all.Tie as tie
-use Rattle.program_session.proofs.running.answer_all.Reads as reads
-use Rattle.program_session.proofs.running.answer_all.Lts as lts
-use Rattle.program_pieces.proofs.read_in.Reads as read-in-reads
-use Rattle.program_pieces.proofs.turns_after.Reads as turns-after-reads
-use Rattle.program_session.proofs.running.finish.Reads as finish-reads
-use Rattle.program_session.proofs.running.say_unread.Reads as say-unread-reads
-use Rattle.program_session.proofs.running.say_unwritten.Reads as say-unwritten-reads
-use Rattle.program_session.proofs.running.take_all.Reads as take-all-reads
 
 abbrev Inv-loop : tie.InvT-loop
 Inv-loop p₀ chunk₀ line₀ out₀ kept₀ written₀ turns₀ p chunk line out kept written turns = (kept ≤ length line) × (Roomy line out) × (Known p (take kept line) written) × (length p ≡ length p₀) × (length chunk ≡ length chunk₀) × (length line ≡ length line₀) × (length out ≡ length out₀)
@@ -25,100 +17,76 @@ Inv-loop p₀ chunk₀ line₀ out₀ kept₀ written₀ turns₀ p chunk line o
 abbrev μ-loop : tie.MeasureT-loop
 μ-loop p₀ chunk₀ line₀ out₀ kept₀ written₀ turns₀ p chunk line out kept written turns = turns
 
--- src/running.rt:141:5
 loop-holds : tie.Need-loop-holds Inv-loop μ-loop
 loop-holds c = let s = c .before .before .before .before in (omega arith, s .pre .1, known-first _ (s .pre .0), refl, refl, refl, refl)
 
--- src/running.rt:142:38
 read-in-requires : tie.Need-read-in-requires Inv-loop μ-loop
 read-in-requires c κs = search needs
 
--- src/running.rt:142:31
 enum-known-got : tie.Need-enum-known-got Inv-loop μ-loop
 enum-known-got c = search needs
 
--- src/running.rt:143:13
 enum-told : tie.Need-enum-told Inv-loop μ-loop
 enum-told c = search needs
 
--- src/running.rt:143:13
 say-unread-requires : tie.Need-say-unread-requires Inv-loop μ-loop
 say-unread-requires c κs = search needs
 
--- src/running.rt:144:13
 same-length : tie.Need-same-length Inv-loop μ-loop
 same-length c = search needs
 
--- src/running.rt:144:13
 same-length-2 : tie.Need-same-length-2 Inv-loop μ-loop
 same-length-2 c = search needs
 
--- src/running.rt:144:13
 same-length-3 : tie.Need-same-length-3 Inv-loop μ-loop
 same-length-3 c = search needs
 
--- src/running.rt:144:13
 same-length-4 : tie.Need-same-length-4 Inv-loop μ-loop
 same-length-4 c = search needs
 
--- src/running.rt:144:13
 returns : tie.Need-returns Inv-loop μ-loop
 returns c = known-reached _ _ _ (c .before .before .before .before .before .before .before .before .loop .inv .2)
 
--- src/running.rt:146:52
 slice-reshare-prefix-take-all : tie.Need-slice-reshare-prefix-take-all Inv-loop μ-loop
 slice-reshare-prefix-take-all c = (rw (c .before .before .got .given .1) at (c .before .before .before .before .before .before .read-in .ensures)) .0
 
--- src/running.rt:146:52
 slice-aggregate-take-all : tie.Need-slice-aggregate-take-all Inv-loop μ-loop
 slice-aggregate-take-all c = (rw (c .before .before .before .got .given .1) at (c .before .before .before .before .before .before .before .read-in .ensures)) .1
 
--- src/running.rt:146:40
 take-all-requires : tie.Need-take-all-requires Inv-loop μ-loop
 take-all-requires c κs = let d = c .before .before .before .before .before .before .before .before .before .before .before .before .before .loop in (d .inv .0, (d .inv .1, d .inv .2))
 
--- src/running.rt:146:30
 enum-known-filled : tie.Need-enum-known-filled Inv-loop μ-loop
 enum-known-filled c = search needs
 
--- src/running.rt:147:13
 enum-told-2 : tie.Need-enum-told-2 Inv-loop μ-loop
 enum-told-2 c = search needs
 
--- src/running.rt:147:13
 say-unwritten-requires : tie.Need-say-unwritten-requires Inv-loop μ-loop
 say-unwritten-requires c κs = search needs
 
--- src/running.rt:148:13
 same-length-5 : tie.Need-same-length-5 Inv-loop μ-loop
 same-length-5 c = search needs
 
--- src/running.rt:148:13
 same-length-6 : tie.Need-same-length-6 Inv-loop μ-loop
 same-length-6 c = search needs
 
--- src/running.rt:148:13
 same-length-7 : tie.Need-same-length-7 Inv-loop μ-loop
 same-length-7 c = search needs
 
--- src/running.rt:148:13
 same-length-8 : tie.Need-same-length-8 Inv-loop μ-loop
 same-length-8 c = search needs
 
--- src/running.rt:148:13
 returns-2 : tie.Need-returns-2 Inv-loop μ-loop
 returns-2 c = let t = rw (c .before .enum-told2 .given .1) at (c .before .before .before .before .before .before .before .before .before .take-all .ensures) in
     known-picture _ _ _ (c .before .before .before .before .before .before .before .before .before .before .before .before .before .before .before .before .before .before .before .before .before .before .before .loop .inv .2) (t .0) _ (t .1)
 
--- src/running.rt:151:9
 turns-after-requires : tie.Need-turns-after-requires Inv-loop μ-loop
 turns-after-requires c κs = search needs
 
--- src/running.rt:141:5
 loop-less : tie.Need-loop-less Inv-loop μ-loop
 loop-less c = search needs
 
--- src/running.rt:141:5
 loop-again : tie.Need-loop-again Inv-loop μ-loop
 loop-again c = let d = c .before .before .before .before .before .before .before .before .before .before .before .before .before .before .before .before .before .before .before .before .before .before .before .before .loop in
     let t = c .before .before .before .before .before .before .before .before .before .before .take-all in
@@ -126,27 +94,21 @@ loop-again c = let d = c .before .before .before .before .before .before .before
     let h = rw (c .before .before .filled .given .1) at (t .ensures) in
     (h .0, record { for-line = d .inv .1 .for-line ∙ sym (k .0); for-answer = omega (arith, d .inv .1 .for-answer, k .1 .0) }, known-after _ _ _ (d .inv .2) _ _ _ _ (h .1) (h .2), t .kept .0 ∙ d .inv .3, c .before .before .before .before .before .before .before .before .before .before .before .before .before .before .before .before .before .before .before .before .before .read-in .kept .0 ∙ d .inv .4, k .0 ∙ d .inv .5, k .1 .0 ∙ d .inv .6)
 
--- src/running.rt:153:5
 finish-requires : tie.Need-finish-requires Inv-loop μ-loop
 finish-requires c κs = let d = c .before .before .before .before .before .loop in (d .inv .0, (d .inv .1, d .inv .2))
 
--- src/running.rt:134:1
 same-length-9 : tie.Need-same-length-9 Inv-loop μ-loop
 same-length-9 c = search needs
 
--- src/running.rt:134:1
 same-length-10 : tie.Need-same-length-10 Inv-loop μ-loop
 same-length-10 c = search needs
 
--- src/running.rt:134:1
 same-length-11 : tie.Need-same-length-11 Inv-loop μ-loop
 same-length-11 c = search needs
 
--- src/running.rt:134:1
 same-length-12 : tie.Need-same-length-12 Inv-loop μ-loop
 same-length-12 c = search needs
 
--- src/running.rt:134:1
 returns-3 : tie.Need-returns-3 Inv-loop μ-loop
 returns-3 c = c .before .before .before .before .finish .ensures
 

@@ -7,45 +7,31 @@ use Rattle.program_session.proofs.Answers.{reply-answers}
 use borrow.Author.Needs.{needs}
 use Rattle.program_session.proofs.running.answer_line.Statement.{statement}
 use Rattle.program_session.proofs.running.answer_line.Tie as tie
-use Rattle.program_session.proofs.running.answer_line.Reads as reads
-use Rattle.program_session.proofs.running.answer_line.Lts as lts
-use Rattle.program_session.proofs.answering.answer.Reads as answer-reads
-use Rattle.program_session.proofs.room.registers_room.Reads as registers-room-reads
-use Rattle.program_writing.proofs.write_answer.Reads as write-answer-reads
 
--- src/running.rt:32:25
 registers-room-requires : tie.Need-registers-room-requires
 registers-room-requires c κs = search needs
 
--- src/running.rt:33:44
 slice-aggregate-answer : tie.Need-slice-aggregate-answer
 slice-aggregate-answer c = search needs
 
--- src/running.rt:33:9
 answer-requires : tie.Need-answer-requires
 answer-requires c κs = search needs
 
--- src/running.rt:34:46
 array-share-prefix-registers : tie.Need-array-share-prefix-registers
 array-share-prefix-registers c = within _ _ _ _ _ (c .before .before .before .before .answer .ensures)
 
--- src/running.rt:34:46
 slice-aggregate-write-answer : tie.Need-slice-aggregate-write-answer
 slice-aggregate-write-answer c = sym (length-take-le _ _ (within _ _ _ _ _ (c .before .before .before .before .before .answer .ensures)))
 
--- src/running.rt:34:5
 write-answer-requires : tie.Need-write-answer-requires
 write-answer-requires c κs = search needs
 
--- src/running.rt:28:1
 same-length : tie.Need-same-length
 same-length c = search needs
 
--- src/running.rt:28:1
 same-length-2 : tie.Need-same-length-2
 same-length-2 c = search needs
 
--- src/running.rt:28:1
 returns : tie.Need-returns
 returns c = let s = c .before .before .before .before .before .before .before .before .before .before .before .before .before .before .before in
     let r = c .before .before .before .before .before .before .before .before .answer in

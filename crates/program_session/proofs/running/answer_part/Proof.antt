@@ -6,56 +6,40 @@ use Rattle.program_session.proofs.Answers.{kept-answers}
 use borrow.Author.Needs.{needs}
 use Rattle.program_session.proofs.running.answer_part.Statement.{statement}
 use Rattle.program_session.proofs.running.answer_part.Tie as tie
-use Rattle.program_session.proofs.running.answer_part.Reads as reads
-use Rattle.program_session.proofs.running.answer_part.Lts as lts
-use Rattle.program_lines.proofs.keep.Reads as keep-reads
-use Rattle.program_session.proofs.running.answer_line.Reads as answer-line-reads
 
--- src/running.rt:52:9
 answer-line-requires : tie.Need-answer-line-requires
 answer-line-requires c κs = search needs
 
--- src/running.rt:52:9
 same-length : tie.Need-same-length
 same-length c = search needs
 
--- src/running.rt:52:9
 same-length-2 : tie.Need-same-length-2
 same-length-2 c = search needs
 
--- src/running.rt:52:9
 returns : tie.Need-returns
 returns c = rw (c .before .before .before .before .before .before .before .if1 .taken) (c .before .before .before .before .answer-line .ensures)
 
--- src/running.rt:54:9
 keep-requires : tie.Need-keep-requires
 keep-requires c κs = search needs
 
--- src/running.rt:55:20
 slice-reshare-prefix-answer-line : tie.Need-slice-reshare-prefix-answer-line
 slice-reshare-prefix-answer-line c = search needs
 
--- src/running.rt:55:20
 slice-aggregate-answer-line : tie.Need-slice-aggregate-answer-line
 slice-aggregate-answer-line c = let k = c .before .before .before .before .keep in sym (length-take-le (k .result) (k .last .1 .1 .0) (omega (arith, k .ensures .0 .1, k .kept .1 .1 .0)))
 
--- src/running.rt:55:5
 answer-line-requires-2 : tie.Need-answer-line-requires-2
 answer-line-requires-2 c κs = search needs
 
--- src/running.rt:38:1
 same-length-3 : tie.Need-same-length-3
 same-length-3 c = search needs
 
--- src/running.rt:38:1
 same-length-4 : tie.Need-same-length-4
 same-length-4 c = search needs
 
--- src/running.rt:38:1
 same-length-5 : tie.Need-same-length-5
 same-length-5 c = search needs
 
--- src/running.rt:38:1
 returns-2 : tie.Need-returns-2
 returns-2 c = let s = c .before .before .before .before .before .before .before .before .before .before .before .before .before .before .before .before .before in
     let k = c .before .before .before .before .before .before .before .before .before .before .keep in

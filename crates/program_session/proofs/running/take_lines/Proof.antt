@@ -8,11 +8,6 @@ use borrow.Author.Needs.{needs}
 use native.Mathlib.Omega.{arith}
 use Rattle.program_session.proofs.running.take_lines.Statement.{statement}
 use Rattle.program_session.proofs.running.take_lines.Tie as tie
-use Rattle.program_session.proofs.running.take_lines.Reads as reads
-use Rattle.program_session.proofs.running.take_lines.Lts as lts
-use Rattle.program_lines.proofs.keep.Reads as keep-reads
-use Rattle.program_lines.proofs.line_end.Reads as line-end-reads
-use Rattle.program_session.proofs.running.answer_part.Reads as answer-part-reads
 
 abbrev Inv-loop : tie.InvT-loop
 Inv-loop p₀ chunk kept line₀ out₀ filled₀ used₀ start₀ p line out filled used start = (Come (with-line p₀ (take kept line₀)) chunk start p line filled out used) × (length p ≡ length p₀) × (length line ≡ length line₀) × (length out ≡ length out₀)
@@ -27,51 +22,39 @@ inside c =
     let m : c .before .line-end .result ≤ length (c .before .before .before .before .before .before .before .args .chunk .now) = e .1 (c .before .before .loop .inv .0 .inside) in
     (e .0, omega (arith, c .if1 .left))
 
--- src/running.rt:67:5
 loop-holds : tie.Need-loop-holds Inv-loop μ-loop
 loop-holds c = let s = c .before .before .before .before in (come-first _ _ _ _ _ (s .pre .0) (s .pre .1), refl, refl, refl)
 
--- src/running.rt:68:13
 line-end-requires : tie.Need-line-end-requires Inv-loop μ-loop
 line-end-requires c κs = search needs
 
--- src/running.rt:72:31
 sub-answer-part : tie.Need-sub-answer-part Inv-loop μ-loop
 sub-answer-part c = omega (arith, inside (c .before))
 
--- src/running.rt:72:31
 part-answer-part-start : tie.Need-part-answer-part-start Inv-loop μ-loop
 part-answer-part-start c = omega (arith, inside (c .before))
 
--- src/running.rt:72:31
 part-answer-part-end : tie.Need-part-answer-part-end Inv-loop μ-loop
 part-answer-part-end c = omega (arith, inside (c .before))
 
--- src/running.rt:72:9
 answer-part-requires : tie.Need-answer-part-requires Inv-loop μ-loop
 answer-part-requires c κs = let d = c .before .before .before .before .before .before .loop in (d .inv .0 .short, (record { for-line = d .inv .0 .for-line; for-answer = omega (arith, d .inv .0 .room) }, d .inv .0 .room))
 
--- src/running.rt:74:17
 add-start : tie.Need-add-start Inv-loop μ-loop
 add-start c = omega (arith, inside (c .before .before .before .before .before .before .before .before .before .before .before))
 
--- src/running.rt:75:12
 sub-if2 : tie.Need-sub-if2 Inv-loop μ-loop
 sub-if2 c = omega (arith, c .before .before .before .before .before .before .answer-part .ensures .within, c .before .before .before .before .before .before .before .before .before .before .before .before .before .loop .inv .0 .room, c .before .before .before .before .before .before .answer-part .kept .1 .1 .1 .1 .0)
 
--- src/running.rt:76:13
 same-length : tie.Need-same-length Inv-loop μ-loop
 same-length c = search needs
 
--- src/running.rt:76:13
 same-length-2 : tie.Need-same-length-2 Inv-loop μ-loop
 same-length-2 c = search needs
 
--- src/running.rt:76:13
 same-length-3 : tie.Need-same-length-3 Inv-loop μ-loop
 same-length-3 c = search needs
 
--- src/running.rt:76:13
 returns : tie.Need-returns Inv-loop μ-loop
 returns c = let d = c .before .before .before .before .before .before .before .before .before .before .before .before .before .before .loop in
     let e = c .before .before .before .before .before .before .before .before .before .before .before .before .before .line-end in
@@ -86,11 +69,9 @@ returns c = let d = c .before .before .before .before .before .before .before .b
       puts = come-puts _ _ _ _ _ _ _ _ (d .inv .0) (e .result) (e .ensures .0) (i .1) _ (t .ensures .puts);
     }
 
--- src/running.rt:67:5
 loop-less : tie.Need-loop-less Inv-loop μ-loop
 loop-less c = omega (arith, inside (c .before .before .before .before .before .before .before .before .before .before .before .before))
 
--- src/running.rt:67:5
 loop-again : tie.Need-loop-again Inv-loop μ-loop
 loop-again c = let d = c .before .before .before .before .before .before .before .before .before .before .before .before .before .before .loop in
     let e = c .before .before .before .before .before .before .before .before .before .before .before .before .before .line-end in
@@ -110,35 +91,27 @@ loop-again c = let d = c .before .before .before .before .before .before .before
       k .1 .0 ∙ d .inv .3,
     )
 
--- src/running.rt:85:35
 sub-keep : tie.Need-sub-keep Inv-loop μ-loop
 sub-keep c = search needs
 
--- src/running.rt:85:35
 part-keep-start : tie.Need-part-keep-start Inv-loop μ-loop
 part-keep-start c = search needs
 
--- src/running.rt:85:35
 part-keep-end : tie.Need-part-keep-end Inv-loop μ-loop
 part-keep-end c = search needs
 
--- src/running.rt:85:15
 keep-requires : tie.Need-keep-requires Inv-loop μ-loop
 keep-requires c κs = c .before .before .before .before .loop .inv .0 .short
 
--- src/running.rt:59:1
 same-length-4 : tie.Need-same-length-4 Inv-loop μ-loop
 same-length-4 c = search needs
 
--- src/running.rt:59:1
 same-length-5 : tie.Need-same-length-5 Inv-loop μ-loop
 same-length-5 c = search needs
 
--- src/running.rt:59:1
 same-length-6 : tie.Need-same-length-6 Inv-loop μ-loop
 same-length-6 c = search needs
 
--- src/running.rt:59:1
 returns-2 : tie.Need-returns-2 Inv-loop μ-loop
 returns-2 c = let d = c .before .before .before .before .before .before .before .loop in
     let k = c .before .before .keep in

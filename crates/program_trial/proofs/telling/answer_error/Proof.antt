@@ -55,8 +55,14 @@ enum-told c = search needs
 write-refusal-requires : tie.Need-write-refusal-requires
 write-refusal-requires c κs = search needs
 
+same-length : tie.Need-same-length
+same-length c = search needs
+
 returns : tie.Need-returns
 returns c = search needs
+
+same-length-2 : tie.Need-same-length-2
+same-length-2 c = search needs
 
 returns-2 : tie.Need-returns-2
 returns-2 c = search needs
@@ -78,5 +84,7 @@ answer-error-spec =
     tell-requires
     enum-told
     write-refusal-requires
+    same-length
     returns
+    same-length-2
     returns-2)

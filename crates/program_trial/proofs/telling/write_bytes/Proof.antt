@@ -16,14 +16,11 @@ abbrev μ-loop : tie.MeasureT-loop
 loop-holds : tie.Need-loop-holds Inv-loop μ-loop
 loop-holds c = (omega arith, refl)
 
-with-room-requires : tie.Need-with-room-requires Inv-loop μ-loop
-with-room-requires c κs = search needs
-
 shared-slice-read-write-number : tie.Need-shared-slice-read-write-number Inv-loop μ-loop
 shared-slice-read-write-number c = search needs
 
 cast-write-number : tie.Need-cast-write-number Inv-loop μ-loop
-cast-write-number c = omega (arith, c .shared-slice-known2 .given (c .before .before .before .before .before .loop .i))
+cast-write-number c = omega (arith, c .shared-slice-known2 .given (c .before .before .before .loop .i))
 
 write-number-requires : tie.Need-write-number-requires Inv-loop μ-loop
 write-number-requires c κs = search needs
@@ -35,9 +32,7 @@ loop-less : tie.Need-loop-less Inv-loop μ-loop
 loop-less c = search needs
 
 loop-again : tie.Need-loop-again Inv-loop μ-loop
-loop-again c =
-    let w = c .before .before in
-    (omega arith, w .write-number .kept .0 ∙ w .before .before .before .before .before .before .loop .inv .1)
+loop-again c = (omega arith, c .before .before .write-number .kept .0 ∙ c .before .before .before .before .before .before .loop .inv .1)
 
 same-length : tie.Need-same-length Inv-loop μ-loop
 same-length c = search needs
@@ -52,7 +47,6 @@ write-bytes-spec =
     Inv-loop
     μ-loop
     loop-holds
-    with-room-requires
     shared-slice-read-write-number
     cast-write-number
     write-number-requires

@@ -11,7 +11,7 @@ use Rattle.program_trial.proofs.trying.answer_call.Tie as tie
 fit : (c : tie.After-call) →
     (c .call .given .0 .1 .1 .1 .0 ≤ length (c .before .before .before .before .read-trial .last .0))
     × (c .call .given .0 .1 .1 .0 ≤ length (c .before .before .before .before .read-trial .last .1 .1 .0))
-    × (c .call .given .0 .1 .0 ≤ length (c .before .before .before .before .before .before .before .before .before .before .args .line .now))
+    × (c .call .given .0 .1 .0 ≤ length (c .before .before .before .before .before .before .before .before .before .before .before .args .line .now))
 fit c =
     let r = c .before .before .before .before .read-trial in
     let f = trial-fits _ _ _ _ _ _ _ _ (r .ensures) (c .call .given .1) in
@@ -59,11 +59,17 @@ enum-told c = search needs
 write-refusal-requires : tie.Need-write-refusal-requires
 write-refusal-requires c κs = search needs
 
+same-length : tie.Need-same-length
+same-length c = search needs
+
 returns : tie.Need-returns
-returns c = search needs
+returns c = tt
+
+same-length-2 : tie.Need-same-length-2
+same-length-2 c = search needs
 
 returns-2 : tie.Need-returns-2
-returns-2 c = search needs
+returns-2 c = tt
 
 pub answer-call-spec : {M : Type 1} → statement M
 answer-call-spec =
@@ -83,5 +89,7 @@ answer-call-spec =
     try-call-requires
     enum-told
     write-refusal-requires
+    same-length
     returns
+    same-length-2
     returns-2)
