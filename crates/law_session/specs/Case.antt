@@ -1,4 +1,4 @@
--- Document 01, the session program: "Whole case: the two lines .. write ..".
+-- Document 01, the session program (rule 113): "Whole case: the two lines .. write ..".
 use mathlib.Core.Path.{_≡_}
 use mathlib.Core.List.{List, [], _∷_, _++_}
 use Prim.Native.Nat.{ℕ}
@@ -9,7 +9,7 @@ use Rattle.program_session.specs.Session.{session}
 abbrev pub zeros : ℕ → List ℕ
 zeros n = replicate n 48
 
--- 0100000018000000640000000000000000000000000000000000000000000000 00 and F0, each with its line feed
+-- 010000001800000064000000000000000000000000000000000000000000000000 and F0, each with its line feed
 abbrev pub case-input : List ℕ
 case-input = 48 ∷ 49 ∷ zeros 6 ++ 49 ∷ 56 ∷ zeros 6 ++ 54 ∷ 52 ∷ zeros 48 ++ 10 ∷ 70 ∷ 48 ∷ 10 ∷ []
 

@@ -1,4 +1,4 @@
--- Document 01, the session program: what a line gives, and the picture that it leaves.
+-- Document 01, the session program (rule 112): what a line gives, and the picture that it leaves.
 use Prim.Native.Nat.{ℕ}
 use mathlib.Core.Path.{_≡_}
 use mathlib.Core.List.{List, [], _∷_}
