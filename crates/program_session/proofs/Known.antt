@@ -1,12 +1,11 @@
--- What is held after some input, as a piece of input or its end goes on from there. Assumes nothing.
-use Prim.Native.Nat.{ℕ, _+_}
+-- What is held after some input, as a piece of input goes on from there. Assumes nothing.
+use Prim.Native.Nat.{ℕ}
 use mathlib.Core.Path.{_≡_, refl, sym, ap, _∙_}
-use mathlib.Core.List.{List, [], _∷_, _++_, append-nil}
-use lib.ListN.{take}
-use Rattle.program_session.specs.Session.{first-picture, line-text, line-picture}
-use Rattle.program_session.specs.Pieces.{State, with-line, start, step, step-text, after, gives}
+use mathlib.Core.List.{List, [], _++_}
+use Rattle.program_session.specs.Session.{first-picture}
+use Rattle.program_session.specs.Pieces.{State, with-line, start, after, gives}
 use Rattle.program_session.specs.Rooms.{Held, Known, Given, Reached}
-use Rattle.program_session.proofs.States.{after-append, gives-append, held-gives, held-after, held-picture}
+use Rattle.program_session.proofs.States.{after-append, held-gives, held-after, held-picture}
 
 -- before any input the first picture is held, and nothing is kept
 pub known-first : (p : List ℕ) → p ≡ first-picture → Known p []
@@ -27,12 +26,3 @@ module _ (p k : List ℕ) (h : Known p k) where
   -- no further
   pub known-reached : Reached p
   known-reached = (h .0, h .1 .pictures)
-
-  -- the end of input, where a line is kept
-  pub known-last : (t : List ℕ) → t ≡ line-text k p → Given t
-  unfolding gives step-text
-  known-last t e = known-gives (10 ∷ []) t (e ∙ sym (append-nil (line-text k p)))
-
-  pub known-end : (q : List ℕ) → q ≡ line-picture k p → Reached q
-  unfolding after step
-  known-end q e = known-picture (10 ∷ []) q e

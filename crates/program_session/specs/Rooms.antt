@@ -5,8 +5,8 @@ use mathlib.Core.List.{List, _++_}
 use lib.ListN.{length, take}
 use Rattle.program_pieces.specs.declared.Kept.{Kept}
 use Rattle.program_pieces.specs.declared.Kept.the-variants.{Characters, Unwritten}
-use Rattle.program_session.specs.Session.{first-picture, line-text, line-picture}
-use Rattle.program_session.specs.Pieces.{State, with-line, start, after, gives}
+use Rattle.program_session.specs.Session.{line-text, line-picture}
+use Rattle.program_session.specs.Pieces.{State, start, after, gives, ending, at-end}
 
 -- how much of a line is kept: one character more than a good line may have
 abbrev pub most-kept : ℕ
@@ -45,6 +45,11 @@ pub record Taken (a : State) (s : List ℕ) (n : ℕ) (q d : List ℕ) (k : ℕ)
 abbrev pub TakenAll : State → List ℕ → List ℕ → List ℕ → Kept → Type 0
 TakenAll a s q d (Characters k) = (k ≤ length d) × (Held (after a s) q (take k d))
 TakenAll a s q d Unwritten = (t : List ℕ) × (q ≡ after a t .picture)
+
+-- the end of input is answered: q is the picture after it, and what it gives is the first r characters of b
+pub record Ended (a : State) (q b : List ℕ) (r : ℕ) : Type 0 where
+  pub leaves : q ≡ after a (ending a) .picture
+  pub puts : take r b ≡ at-end a
 
 -- what is held is the state after some input
 abbrev pub Known : List ℕ → List ℕ → Type 0
