@@ -1,4 +1,4 @@
--- The whole case of document 01, worked out.
+-- The session's cases, worked out.
 use mathlib.Core.Path.{refl}
 use Rattle.words.specs.Words.{clear}
 use Rattle.picture.specs.Records.{with-members}
@@ -19,8 +19,20 @@ use Rattle.program_digits.specs.Digits.{digit, digits, number, numbers}
 use Rattle.program_writing.specs.Texts.{capital, spelled, spelled-words, answer-text}
 use Rattle.program_lines.specs.Frames.{alone, trapped, frame, called as framed}
 use Rattle.program_session.specs.Session.{first-picture, line-text, line-picture, lines, texts, session}
-use Rattle.law_session.specs.Case.{WholeCase}
+use Rattle.law_session.specs.Case.{WholeCase, NoInput, EmptyLine, LineAtEnd}
 
 pub whole-case : WholeCase
 unfolding computed fresh clear header fits chosen split placed answer outcome meant length-good room-registers taken take with-members job-at set-each preferred chosen-below chosen-job accumulated-after turn-given picked picked-number picked-key trap-one call-named checked called pick-answer pick-picture digit digits number numbers capital spelled spelled-words answer-text first-picture line-text line-picture lines texts session alone trapped frame framed
 whole-case = refl
+
+pub no-input : NoInput
+unfolding lines texts session
+no-input = refl
+
+pub empty-line : EmptyLine
+unfolding capital spelled spelled-words answer-text line-text lines texts session frame
+empty-line = refl
+
+pub line-at-end : LineAtEnd
+unfolding computed fresh clear header fits chosen split placed answer outcome meant length-good room-registers taken take with-members job-at set-each preferred chosen-below chosen-job accumulated-after turn-given picked picked-number picked-key trap-one call-named checked called pick-answer pick-picture digit digits number numbers capital spelled spelled-words answer-text first-picture line-text line-picture lines texts session alone trapped frame framed
+line-at-end = refl

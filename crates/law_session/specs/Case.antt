@@ -1,4 +1,4 @@
--- Document 01, the session program (rule 113): "Whole case: the two lines .. write ..".
+-- Document 01, the session program (rule 113): its whole case, and its sentences about lines, worked out.
 use mathlib.Core.Path.{_≡_}
 use mathlib.Core.List.{List, [], _∷_, _++_}
 use Prim.Native.Nat.{ℕ}
@@ -9,13 +9,25 @@ use Rattle.program_session.specs.Session.{session}
 abbrev pub zeros : ℕ → List ℕ
 zeros n = replicate n 48
 
--- 010000001800000064000000000000000000000000000000000000000000000000 and F0, each with its line feed
+-- "the two lines 01 00000018 00000064 0 .. 0 and F0", without the blanks
 abbrev pub case-input : List ℕ
 case-input = 48 ∷ 49 ∷ zeros 6 ++ 49 ∷ 56 ∷ zeros 6 ++ 54 ∷ 52 ∷ zeros 48 ++ 10 ∷ 70 ∷ 48 ∷ 10 ∷ []
 
--- 0000000000000070000000000000000000000630000000000000000000000000 and 0000000000000000, each with its line feed
+-- "write 00000000 00000070 0 .. 0 00000630 0 .. 0 and 00000000 00000000"
 abbrev pub case-output : List ℕ
 case-output = zeros 14 ++ 55 ∷ zeros 22 ++ 54 ∷ 51 ∷ zeros 25 ++ 10 ∷ zeros 16 ++ 10 ∷ []
 
 abbrev pub WholeCase : Type 0
 WholeCase = session case-input ≡ case-output
+
+-- nothing gives nothing
+abbrev pub NoInput : Type 0
+NoInput = session [] ≡ []
+
+-- "a bad line (empty, ..) gives FFFFFFF1"
+abbrev pub EmptyLine : Type 0
+EmptyLine = session (10 ∷ []) ≡ 70 ∷ 70 ∷ 70 ∷ 70 ∷ 70 ∷ 70 ∷ 70 ∷ 49 ∷ 10 ∷ []
+
+-- "A line ends at a line feed or the end of input"; "Small letters are read too": f0 without a line feed
+abbrev pub LineAtEnd : Type 0
+LineAtEnd = session (102 ∷ 48 ∷ []) ≡ zeros 16 ++ 10 ∷ []

@@ -3,7 +3,9 @@ use mathlib.Core.Path.{_≡_}
 use mathlib.Core.List.{List, [], _∷_, _++_}
 use Prim.Native.Nat.{ℕ}
 use Rattle.program_session.specs.Session.{session}
-use Rattle.program_session.specs.Pieces.{State, start, after, gives, at-end}
+use lib.ListN.{take}
+use Rattle.program_session.specs.Pieces.{State, with-line, start, after, gives, at-end}
+use Rattle.program_session.specs.Rooms.{most-kept}
 
 -- pieces put together
 unfoldable pub together : List (List ℕ) → List ℕ
@@ -17,3 +19,7 @@ written a (s ∷ pieces) = gives a s ++ written (after a s) pieces
 
 abbrev pub CutAnywhere : Type 0
 CutAnywhere = (pieces : List (List ℕ)) → written start pieces ≡ session (together pieces)
+
+-- of a line as many characters as are kept are enough: whatever comes, what is written is the same
+abbrev pub KeptIsEnough : Type 0
+KeptIsEnough = (a : State) (pieces : List (List ℕ)) → written (with-line (a .picture) (take most-kept (a .line))) pieces ≡ written a pieces

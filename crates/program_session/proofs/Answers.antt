@@ -1,7 +1,9 @@
 -- A line's answer as it stands in the output's room. Assumes nothing.
 use Prim.Native.Nat.{ℕ, _+_, _*_, _≤_, _<_, min}
-use mathlib.Core.Path.{_≡_, refl, sym, ap, subst, _∙_}
-use mathlib.Core.List.{List, [], _∷_, _++_}
+use mathlib.Core.Path.{_≡_, refl, sym, ap, _∙_}
+use mathlib.Core.Logic.{_≢_}
+use mathlib.Core.List.{List, [], _∷_, _++_, append-nil}
+use borrow.Author.Tests.{ne-eqb}
 use native.Mathlib.Omega.{arith}
 use lib.ListN.{length, take}
 use lib.Seq.{sets, take-take}
@@ -11,7 +13,8 @@ use Rattle.program_lines.specs.Frames.{frame}
 use Rattle.program_lines.proofs.Kept.{kept-in-room}
 use Rattle.program_session.specs.Reply.{reply, Replied}
 use Rattle.program_session.specs.Session.{line-text, line-picture}
-use Rattle.program_session.specs.Rooms.{most-kept, longest-answer, Answered}
+use Rattle.program_session.specs.Rooms.{most-kept, longest-answer, Answered, Ended}
+use Rattle.program_session.specs.Pieces.{with-line, step, step-text, after, gives, ending}
 use Rattle.program_session.proofs.States.{same-text, same-picture}
 
 -- a reply of at most eight longwords, written where there is room for it, answers its line
@@ -34,3 +37,14 @@ kept-answers line part p q a k n b r e l h =
     let x : s ≡ take most-kept t = rw e (kept-in-room line k part l) in
     let y : take most-kept s ≡ take most-kept t = ap (take most-kept) x ∙ take-take most-kept most-kept t (omega arith) in
     record { leaves = h .leaves ∙ same-picture s t y p; puts = h .puts ∙ ap (λ (u : List ℕ). take n a ++ u) (same-text s t y p); within = h .within }
+
+-- the end of input answers what is kept of a line
+pub nothing-ends : (p b : List ℕ) → Ended (with-line p []) p b 0
+unfolding ending after gives
+nothing-ends p b = record { leaves = refl; puts = refl }
+
+pub line-ends : (p k q b : List ℕ) (r : ℕ) → length k ≢ 0 → q ≡ line-picture k p → take r b ≡ line-text k p → Ended (with-line p k) q b r
+unfolding ending after gives step step-text
+line-ends p k q b r l e f =
+    let z : ending (with-line p k) ≡ 10 ∷ [] = rw (ne-eqb (length k) 0 l) in
+    record { leaves = rw z e; puts = rw (z, append-nil) f }

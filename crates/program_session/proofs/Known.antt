@@ -1,11 +1,11 @@
--- What is held after some input, as a piece of input or its end goes on from there. Assumes nothing.
+-- What is held after some input, as a piece of input goes on from there. Assumes nothing.
 use Prim.Native.Nat.{ℕ, _+_}
 use mathlib.Core.Path.{_≡_, refl, sym, ap, _∙_}
-use mathlib.Core.List.{List, [], _∷_, _++_, append-nil}
+use mathlib.Core.List.{List, [], _++_}
 use native.Mathlib.Omega.{arith}
-use lib.ListN.{length, length-append, take}
-use Rattle.program_session.specs.Session.{first-picture, line-text, line-picture}
-use Rattle.program_session.specs.Pieces.{State, with-line, start, step, step-text, after, gives}
+use lib.ListN.{length, length-append}
+use Rattle.program_session.specs.Session.{first-picture}
+use Rattle.program_session.specs.Pieces.{State, with-line, start, after, gives}
 use Rattle.program_session.specs.Rooms.{counted, Held, Known, Given, Reached}
 use Rattle.program_session.proofs.States.{after-append, gives-append, held-gives, held-after, held-picture}
 
@@ -46,12 +46,3 @@ module _ (p k : List ℕ) (w : ℕ) (h : Known p k w) where
   -- no further
   pub known-reached : Reached p
   known-reached = (h .0, h .1 .pictures)
-
-  -- the end of input, where a line is kept
-  pub known-last : (t : List ℕ) → t ≡ line-text k p → Given t w
-  unfolding gives step-text
-  known-last t e = known-gives (10 ∷ []) t (e ∙ sym (append-nil (line-text k p)))
-
-  pub known-end : (q : List ℕ) → q ≡ line-picture k p → Reached q
-  unfolding after step
-  known-end q e = known-picture (10 ∷ []) q e

@@ -93,9 +93,9 @@ module _ (s t : List ℕ) (e : take most-kept s ≡ take most-kept t) (p : List 
   same-picture = ap (λ (f : Frame). reply f p .picture) same-frame
 
 -- states that agree in their picture and in what is kept of their line
-record Alike (a b : State) : Type 0 where
-  pictures : a .picture ≡ b .picture
-  lines : take most-kept (a .line) ≡ take most-kept (b .line)
+pub record Alike (a b : State) : Type 0 where
+  pub pictures : a .picture ≡ b .picture
+  pub lines : take most-kept (a .line) ≡ take most-kept (b .line)
 
 step-alike : (a b : State) (c : ℕ) → Alike a b → Alike (step a c) (step b c)
 unfolding step
@@ -109,19 +109,19 @@ step-says-alike : (a b : State) (c : ℕ) → Alike a b → step-text a c ≡ st
 unfolding step-text
 step-says-alike a b c h = ap (λ (x : List ℕ). pick (eqb c 10) x []) (same-text (a .line) (b .line) (h .lines) (a .picture) ∙ ap (line-text (b .line)) (h .pictures))
 
-after-alike : (a b : State) (s : List ℕ) → Alike a b → Alike (after a s) (after b s)
+pub after-alike : (a b : State) (s : List ℕ) → Alike a b → Alike (after a s) (after b s)
 unfolding after
 after-alike a b [] h = h
 after-alike a b (c ∷ s) h = after-alike (step a c) (step b c) s (step-alike a b c h)
 
-gives-alike : (a b : State) (s : List ℕ) → Alike a b → gives a s ≡ gives b s
+pub gives-alike : (a b : State) (s : List ℕ) → Alike a b → gives a s ≡ gives b s
 unfolding gives
 gives-alike a b [] h = refl
 gives-alike a b (c ∷ s) h = rw (step-says-alike a b c h, gives-alike (step a c) (step b c) s (step-alike a b c h))
 
 -- what is held goes on as the state does
 module _ (a : State) (p k : List ℕ) (h : Held a p k) where
-  held-alike : Alike (with-line p k) a
+  pub held-alike : Alike (with-line p k) a
   held-alike = record { pictures = h .pictures; lines = ap (take most-kept) (h .keeps) ∙ take-take most-kept most-kept (a .line) (omega arith) }
 
   pub held-gives : (s : List ℕ) → gives (with-line p k) s ≡ gives a s

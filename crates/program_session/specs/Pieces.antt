@@ -1,9 +1,8 @@
 -- A session whose input comes in pieces: what is known after an input, and what a further piece gives.
-use Prim.Native.Nat.{ℕ, _≤_}
-use mathlib.Core.Path.{_≡_}
+use Prim.Native.Nat.{ℕ}
 use mathlib.Core.List.{List, [], _∷_, _++_}
 use lib.Dec.{eqb}
-use lib.ListN.{length, take}
+use lib.ListN.{length}
 use Rattle.program_digits.specs.Digits.{pick}
 use Rattle.program_session.specs.Session.{first-picture, line-text, line-picture}
 
@@ -37,6 +36,10 @@ unfoldable pub gives : State → List ℕ → List ℕ
 gives a [] = []
 gives a (c ∷ s) = step-text a c ++ gives (step a c) s
 
--- what the end of input gives: it ends a line that has characters, as a line feed does
-unfoldable pub at-end : State → List ℕ
-at-end a = pick (eqb (length (a .line)) 0) [] (gives a (10 ∷ []))
+-- the end of input ends a line that has characters, as a line feed does
+unfoldable pub ending : State → List ℕ
+ending a = pick (eqb (length (a .line)) 0) [] (10 ∷ [])
+
+-- what the end of input gives
+abbrev pub at-end : State → List ℕ
+at-end a = gives a (ending a)

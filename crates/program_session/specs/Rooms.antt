@@ -5,8 +5,8 @@ use mathlib.Core.List.{List, _++_}
 use lib.ListN.{length, take}
 use Rattle.program_pieces.specs.declared.Kept.{Kept}
 use Rattle.program_pieces.specs.declared.Kept.the-variants.{Characters, Unwritten}
-use Rattle.program_session.specs.Session.{first-picture, line-text, line-picture}
-use Rattle.program_session.specs.Pieces.{State, with-line, start, after, gives}
+use Rattle.program_session.specs.Session.{line-text, line-picture}
+use Rattle.program_session.specs.Pieces.{State, start, after, gives, ending, at-end}
 
 -- how much of a line is kept: one character more than a good line may have
 abbrev pub most-kept : ℕ
@@ -49,6 +49,11 @@ counted n = n % 2 ^ 64
 abbrev pub TakenAll : State → List ℕ → List ℕ → List ℕ → ℕ → ℕ → Kept → Type 0
 TakenAll a s q d v w (Characters k) = (k ≤ length d) × (Held (after a s) q (take k d)) × (w ≡ counted (v + length (gives a s)))
 TakenAll a s q d v w Unwritten = (t : List ℕ) × (q ≡ after a t .picture)
+
+-- the end of input is answered: q is the picture after it, and what it gives is the first r characters of b
+pub record Ended (a : State) (q b : List ℕ) (r : ℕ) : Type 0 where
+  pub leaves : q ≡ after a (ending a) .picture
+  pub puts : take r b ≡ at-end a
 
 -- what is held is the state after some input, and w counts the characters that this input gives
 abbrev pub Known : List ℕ → List ℕ → ℕ → Type 0

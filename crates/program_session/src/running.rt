@@ -9,7 +9,7 @@ ghost use Prim.Native.Nat.{_+_, _≤_};
 ghost use lib.ListN.{length, take};
 ghost use Rattle.program_session.specs.Session.{first-picture as firstPicture};
 ghost use Rattle.program_session.specs.Pieces.{with-line as withLine};
-ghost use Rattle.program_session.specs.Rooms.{longest-answer as longestAnswer, counted, Roomy, Answered, Taken, TakenAll, Known, Given, Reached};
+ghost use Rattle.program_session.specs.Rooms.{longest-answer as longestAnswer, counted, Roomy, Answered, Taken, TakenAll, Ended, Known, Given, Reached};
 
 // The most characters that an answer has.
 const LONGEST_ANSWER: usize = 65;
@@ -123,17 +123,26 @@ fn take_all(
     Kept::Characters(filled)
 }
 
-// The end of input: answers what stands behind the last line feed.
+// Answers what stands behind the last line feed, at the start of the output's room, and answers how long the answer is.
+fn answer_last(p: &mut [u32], kept: usize, line: &[u8], out: &mut [u8]) -> usize
+    requires { ⌜ kept ≤ length (now line) ⌝ }
+    requires { ⌜ Roomy (now line) (now out) ⌝ }
+    ensures { λ r. ⌜ Ended (withLine (now (p .entry)) (take kept (now (line .entry)))) (now (p .exit)) (now (out .exit)) r ⌝ }
+{
+    if kept == 0 {
+        return 0;
+    }
+    answer_line(p, &line[..kept], out, 0)
+}
+
+// The end of input: what it gives is written out.
 fn finish(p: &mut [u32], kept: usize, line: &[u8], out: &mut [u8], written: &mut u64)
     requires { ⌜ kept ≤ length (now line) ⌝ }
     requires { ⌜ Roomy (now line) (now out) ⌝ }
     requires { ⌜ Known (now p) (take kept (now line)) (now written) ⌝ }
     ensures { λ _. ⌜ Reached (now (p .exit)) ⌝ }
 {
-    if kept == 0 {
-        return;
-    }
-    let used = answer_line(p, &line[..kept], out, 0);
+    let used = answer_last(p, kept, line, out);
     if !write_piece(out, used, written) {
         say_unwritten();
     }
