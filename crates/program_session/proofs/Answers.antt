@@ -1,13 +1,13 @@
 -- A line's answer as it stands in the output's room. Assumes nothing.
 use Prim.Native.Nat.{ℕ, _+_, _*_, _≤_, _<_, min}
-use mathlib.Core.Path.{_≡_, refl, sym, ap, _∙_}
+use mathlib.Core.Path.{_≡_, refl, ap, _∙_}
 use mathlib.Core.Logic.{_≢_}
 use mathlib.Core.List.{List, [], _∷_, _++_, append-nil}
 use borrow.Author.Tests.{ne-eqb}
 use native.Mathlib.Omega.{arith}
 use lib.ListN.{length, take}
 use lib.Seq.{sets, take-take}
-use Rattle.program_writing.specs.Texts.{past, with-answer, answer-text}
+use Rattle.program_writing.specs.Texts.{past, with-answer}
 use Rattle.program_writing.proofs.Writer.{answer-behind, answer-past}
 use Rattle.program_lines.specs.Frames.{frame}
 use Rattle.program_lines.proofs.Kept.{kept-in-room}

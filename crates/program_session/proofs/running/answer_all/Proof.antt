@@ -2,9 +2,7 @@
 use mathlib.Core.Path.{_≡_, refl, sym, _∙_}
 use Prim.Native.Nat.{_≤_, _-_}
 use lib.ListN.{length, take}
-use lib.Seq.{length-take-le}
-use Rattle.program_pieces.specs.Input.{Within}
-use Rattle.program_session.specs.Rooms.{Roomy, Known, TakenAll}
+use Rattle.program_session.specs.Rooms.{Roomy, Known}
 use Rattle.program_session.proofs.Known.{known-first, known-after, known-picture, known-reached}
 use borrow.Author.Needs.{needs}
 use native.Mathlib.Omega.{arith}

@@ -2,7 +2,6 @@
 use mathlib.Core.Path.{_≡_, sym, _∙_}
 use lib.ListN.{length, take}
 use lib.Seq.{length-take-le}
-use native.Mathlib.Omega.{arith}
 use Rattle.program_session.proofs.Answers.{nothing-ends, line-ends}
 use borrow.Author.Needs.{needs}
 use Rattle.program_session.proofs.running.answer_last.Statement.{statement}

@@ -5,7 +5,7 @@ use mathlib.Core.Path.{_≡_, refl, sym, _∙_}
 use Prim.Native.Nat.{_+_, _≤_, _<_, _-_}
 use lib.ListN.{length, take, drop}
 use Rattle.program_session.specs.Pieces.{with-line, after}
-use Rattle.program_session.specs.Rooms.{Roomy, Held, Known}
+use Rattle.program_session.specs.Rooms.{Roomy, Held}
 use borrow.Author.Needs.{needs}
 use native.Mathlib.Omega.{arith}
 use Rattle.program_session.proofs.running.take_all.Statement.{statement}
