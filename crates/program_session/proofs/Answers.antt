@@ -41,10 +41,10 @@ kept-answers line part p q a k n b r e l h =
 -- the end of input answers what is kept of a line
 pub nothing-ends : (p b : List ℕ) → Ended (with-line p []) p b 0
 unfolding ending after gives
-nothing-ends p b = record { leaves = refl; puts = refl }
+nothing-ends p b = record { leaves = refl; fits = omega arith; puts = refl }
 
-pub line-ends : (p k q b : List ℕ) (r : ℕ) → length k ≢ 0 → q ≡ line-picture k p → take r b ≡ line-text k p → Ended (with-line p k) q b r
+pub line-ends : (p k q b : List ℕ) (r : ℕ) → length k ≢ 0 → r ≤ length b → q ≡ line-picture k p → take r b ≡ line-text k p → Ended (with-line p k) q b r
 unfolding ending after gives step step-text
-line-ends p k q b r l e f =
+line-ends p k q b r l m e f =
     let z : ending (with-line p k) ≡ 10 ∷ [] = rw (ne-eqb (length k) 0 l) in
-    record { leaves = rw z e; puts = rw (z, append-nil) f }
+    record { leaves = rw z e; fits = m; puts = rw (z, append-nil) f }

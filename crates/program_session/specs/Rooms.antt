@@ -41,14 +41,15 @@ pub record Taken (a : State) (s : List ℕ) (n : ℕ) (q d : List ℕ) (k : ℕ)
   pub fits : r ≤ length b
   pub puts : take r b ≡ gives a (take n s)
 
--- a piece is taken, or the output failed on the way
+-- a piece is taken, or the output failed when n characters of it were
 abbrev pub TakenAll : State → List ℕ → List ℕ → List ℕ → Kept → Type 0
 TakenAll a s q d (Characters k) = (k ≤ length d) × (Held (after a s) q (take k d))
-TakenAll a s q d Unwritten = (t : List ℕ) × (q ≡ after a t .picture)
+TakenAll a s q d Unwritten = (n : ℕ) × (q ≡ after a (take n s) .picture)
 
 -- the end of input is answered: q is the picture after it, and what it gives is the first r characters of b
 pub record Ended (a : State) (q b : List ℕ) (r : ℕ) : Type 0 where
   pub leaves : q ≡ after a (ending a) .picture
+  pub fits : r ≤ length b
   pub puts : take r b ≡ at-end a
 
 -- what is held is the state after some input

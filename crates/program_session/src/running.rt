@@ -89,6 +89,7 @@ fn take_lines(p: &mut [u32], chunk: &[u8], kept: usize, line: &mut [u8], out: &m
 
 // Writes out a piece: the text that a piece of input gives, after the input before it.
 fn write_piece(out: &[u8], used: usize) -> bool
+    requires { ⌜ used ≤ length (now out) ⌝ }
     requires { ⌜ Given (take used (now out)) ⌝ }
 {
     program_pieces::write_out(out, used)
