@@ -7,7 +7,7 @@ use native.Mathlib.Omega.{arith}
 use borrow.Author.Tests.{leb-true, leb-false, ltb-true, ltb-false}
 use lib.Dec.{leb, ltb}
 use lib.ListN.{length, take, set, length-take, length-set}
-use lib.Seq.{sets, take-all, take-take, take-suc-set, take-append-le, append-snoc, length-take-le}
+use lib.Seq.{sets, take-all, take-suc-set, take-append-le, append-snoc, length-take-le}
 use Rattle.program_lines.specs.Frames.{frame}
 use Rattle.program_lines.proofs.Ends.{stores-past}
 use Rattle.program_lines.proofs.Meaning.{long-bad}

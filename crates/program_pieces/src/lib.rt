@@ -1,6 +1,5 @@
 // Input and output in large pieces, and what is said where a read or a write fails.
 ghost use Prim.Native.Nat.{_<_};
-ghost use lib.ListN.{length};
 ghost use Rattle.program_pieces.specs.Input.{Within};
 use libc::STDERR_FILENO;
 use libc::STDIN_FILENO;

@@ -1,13 +1,13 @@
 -- A line's answer as it stands in the output's room. Assumes nothing.
 use Prim.Native.Nat.{ℕ, _+_, _*_, _≤_, _<_, min}
-use mathlib.Core.Path.{_≡_, refl, sym, ap, _∙_}
+use mathlib.Core.Path.{_≡_, refl, ap, _∙_}
 use mathlib.Core.Logic.{_≢_}
 use mathlib.Core.List.{List, [], _∷_, _++_, append-nil}
 use borrow.Author.Tests.{ne-eqb}
 use native.Mathlib.Omega.{arith}
 use lib.ListN.{length, take}
 use lib.Seq.{sets, take-take}
-use Rattle.program_writing.specs.Texts.{past, with-answer, answer-text}
+use Rattle.program_writing.specs.Texts.{past, with-answer}
 use Rattle.program_writing.proofs.Writer.{answer-behind, answer-past}
 use Rattle.program_lines.specs.Frames.{frame}
 use Rattle.program_lines.proofs.Kept.{kept-in-room}
@@ -41,10 +41,10 @@ kept-answers line part p q a k n b r e l h =
 -- the end of input answers what is kept of a line
 pub nothing-ends : (p b : List ℕ) → Ended (with-line p []) p b 0
 unfolding ending after gives
-nothing-ends p b = record { leaves = refl; puts = refl }
+nothing-ends p b = record { leaves = refl; fits = omega arith; puts = refl }
 
-pub line-ends : (p k q b : List ℕ) (r : ℕ) → length k ≢ 0 → q ≡ line-picture k p → take r b ≡ line-text k p → Ended (with-line p k) q b r
+pub line-ends : (p k q b : List ℕ) (r : ℕ) → length k ≢ 0 → r ≤ length b → q ≡ line-picture k p → take r b ≡ line-text k p → Ended (with-line p k) q b r
 unfolding ending after gives step step-text
-line-ends p k q b r l e f =
+line-ends p k q b r l m e f =
     let z : ending (with-line p k) ≡ 10 ∷ [] = rw (ne-eqb (length k) 0 l) in
-    record { leaves = rw z e; puts = rw (z, append-nil) f }
+    record { leaves = rw z e; fits = m; puts = rw (z, append-nil) f }

@@ -1,6 +1,6 @@
 -- The picture that a session starts with. Assumes nothing.
 use Prim.Native.Nat.{ℕ}
-use mathlib.Core.Path.{_≡_, refl}
+use mathlib.Core.Path.{_≡_}
 use mathlib.Core.List.{List}
 use lib.ListN.{length}
 use Rattle.fresh.specs.Fresh.{fresh-good, fresh-picture}

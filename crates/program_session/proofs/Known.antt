@@ -3,7 +3,7 @@ use Prim.Native.Nat.{ℕ, _+_}
 use mathlib.Core.Path.{_≡_, refl, sym, ap, _∙_}
 use mathlib.Core.List.{List, [], _++_}
 use native.Mathlib.Omega.{arith}
-use lib.ListN.{length, length-append}
+use lib.ListN.{length, length-append, take}
 use Rattle.program_session.specs.Session.{first-picture}
 use Rattle.program_session.specs.Pieces.{State, with-line, start, after, gives}
 use Rattle.program_session.specs.Rooms.{counted, Held, Known, Given, Reached}
@@ -42,6 +42,9 @@ module _ (p k : List ℕ) (w : ℕ) (h : Known p k w) where
 
   pub known-picture : (s q : List ℕ) → q ≡ after (with-line p k) s .picture → Reached q
   known-picture s q e = (h .0 ++ s, e ∙ held-picture (after start (h .0)) p k (h .1) s ∙ ap (λ (a : State). a .picture) (sym (after-append start (h .0) s)))
+
+  pub known-part : (s q : List ℕ) → ((n : ℕ) × (q ≡ after (with-line p k) (take n s) .picture)) → Reached q
+  known-part s q e = known-picture (take (e .0) s) q (e .1)
 
   -- no further
   pub known-reached : Reached p

@@ -1,7 +1,7 @@
 -- The lines of a chunk, one after the other: what is held and what is written after each is that of the characters taken so far. Assumes nothing.
 use Prim.Native.Nat.{ℕ, suc, _+_, _-_, _≤_, _<_, min}
 use mathlib.Core.Path.{_≡_, refl, sym, ap, _∙_}
-use mathlib.Core.List.{List, [], _∷_, _++_, append-nil}
+use mathlib.Core.List.{List, [], _++_, append-nil}
 use native.Mathlib.Omega.{arith}
 use lib.ListN.{length, length-append, take, drop, length-take, length-drop, take-append-drop}
 use lib.Seq.{sets, take-all, take-add, take-length, length-take-le}
@@ -9,7 +9,7 @@ use Rattle.program_lines.specs.Feeds.{before-feed, line-end}
 use Rattle.program_lines.proofs.Kept.{kept-more, kept-in-room}
 use Rattle.program_session.specs.Session.{line-text, line-picture}
 use Rattle.program_session.specs.Pieces.{State, with-line, after, gives}
-use Rattle.program_session.specs.Rooms.{most-kept, longest-answer, counted, Roomy, Held, Answered, Taken}
+use Rattle.program_session.specs.Rooms.{most-kept, longest-answer, counted, Roomy, Held}
 use Rattle.program_session.proofs.States.{after-append, gives-append, ends-line, ends-text, goes-on, says-nothing, same-text, same-picture, held-gives, held-after}
 
 -- n characters of s are taken from a on: the state is held in p and the first k characters of d, and b begins with r characters of what they give, with room for an answer more

@@ -45,14 +45,15 @@ pub record Taken (a : State) (s : List ℕ) (n : ℕ) (q d : List ℕ) (k : ℕ)
 abbrev pub counted : ℕ → ℕ
 counted n = n % 2 ^ 64
 
--- a piece is taken, and as many characters more are written as it gives; or the output failed on the way
+-- a piece is taken, and as many characters more are written as it gives; or the output failed when n characters of it were
 abbrev pub TakenAll : State → List ℕ → List ℕ → List ℕ → ℕ → ℕ → Kept → Type 0
 TakenAll a s q d v w (Characters k) = (k ≤ length d) × (Held (after a s) q (take k d)) × (w ≡ counted (v + length (gives a s)))
-TakenAll a s q d v w Unwritten = (t : List ℕ) × (q ≡ after a t .picture)
+TakenAll a s q d v w Unwritten = (n : ℕ) × (q ≡ after a (take n s) .picture)
 
 -- the end of input is answered: q is the picture after it, and what it gives is the first r characters of b
 pub record Ended (a : State) (q b : List ℕ) (r : ℕ) : Type 0 where
   pub leaves : q ≡ after a (ending a) .picture
+  pub fits : r ≤ length b
   pub puts : take r b ≡ at-end a
 
 -- what is held is the state after some input, and w counts the characters that this input gives

@@ -89,6 +89,7 @@ fn take_lines(p: &mut [u32], chunk: &[u8], kept: usize, line: &mut [u8], out: &m
 
 // Writes out a piece: the text that a piece of input gives after the input before it. It is the next of the output behind the characters that are written already.
 fn write_piece(out: &[u8], used: usize, written: &mut u64) -> bool
+    requires { ⌜ used ≤ length (now out) ⌝ }
     requires { ⌜ Given (take used (now out)) (now written) ⌝ }
     ensures { λ _. ⌜ now (written .exit) ≡ counted (now (written .entry) + used) ⌝ }
 {

@@ -1,5 +1,4 @@
 -- `session::main` meets its contract: the picture is made fresh by the session's sizes, and the rooms are as long as their functions say. Assumes nothing.
-use Rattle.program_session.specs.Rooms.{Roomy}
 use mathlib.Core.Path.{_∙_}
 use native.Mathlib.Omega.{arith}
 use Rattle.program_session.proofs.First.{fresh-is-first}

@@ -2,10 +2,8 @@
 use mathlib.Core.Path.{_≡_, refl, sym, _∙_}
 use Prim.Native.Nat.{_≤_, _-_}
 use lib.ListN.{length, take}
-use lib.Seq.{length-take-le}
-use Rattle.program_pieces.specs.Input.{Within}
-use Rattle.program_session.specs.Rooms.{Roomy, Known, TakenAll}
-use Rattle.program_session.proofs.Known.{known-first, known-after, known-picture, known-reached}
+use Rattle.program_session.specs.Rooms.{Roomy, Known}
+use Rattle.program_session.proofs.Known.{known-first, known-after, known-part, known-reached}
 use borrow.Author.Needs.{needs}
 use native.Mathlib.Omega.{arith}
 use Rattle.program_session.proofs.running.answer_all.Statement.{statement}
@@ -78,8 +76,7 @@ same-length-8 : tie.Need-same-length-8 Inv-loop μ-loop
 same-length-8 c = search needs
 
 returns-2 : tie.Need-returns-2 Inv-loop μ-loop
-returns-2 c = let t = rw (c .before .enum-told2 .given .1) at (c .before .before .before .before .before .before .before .before .before .take-all .ensures) in
-    known-picture _ _ _ (c .before .before .before .before .before .before .before .before .before .before .before .before .before .before .before .before .before .before .before .before .before .before .before .loop .inv .2) (t .0) _ (t .1)
+returns-2 c = known-part _ _ _ (c .before .before .before .before .before .before .before .before .before .before .before .before .before .before .before .before .before .before .before .before .before .before .before .loop .inv .2) _ _ (rw (c .before .enum-told2 .given .1) at (c .before .before .before .before .before .before .before .before .before .take-all .ensures))
 
 turns-after-requires : tie.Need-turns-after-requires Inv-loop μ-loop
 turns-after-requires c κs = search needs

@@ -1,8 +1,8 @@
 -- `program_session::running::answer_last` meets its contract: what is kept lies in its room, and is answered where there is any. Assumes nothing.
+use native.Mathlib.Omega.{arith}
 use mathlib.Core.Path.{_≡_, sym, _∙_}
 use lib.ListN.{length, take}
 use lib.Seq.{length-take-le}
-use native.Mathlib.Omega.{arith}
 use Rattle.program_session.proofs.Answers.{nothing-ends, line-ends}
 use borrow.Author.Needs.{needs}
 use Rattle.program_session.proofs.running.answer_last.Statement.{statement}
@@ -27,7 +27,7 @@ returns-2 : tie.Need-returns-2
 returns-2 c = let s = c .before .before .before .before .before .before .before .before .before .before .before .before in
     let t = c .before .before .before .before .answer-line in
     let n : length (take (s .args .kept) (s .args .line .now)) ≡ s .args .kept = length-take-le (s .args .kept) (s .args .line .now) (s .pre .0) in
-    line-ends (s .args .p .now) (take (s .args .kept) (s .args .line .now)) _ (t .last .1 .1 .0) (t .result) (λ z. c .before .before .before .before .before .before .before .before .if1 .left (sym n ∙ z)) (t .ensures .leaves) (t .ensures .puts)
+    line-ends (s .args .p .now) (take (s .args .kept) (s .args .line .now)) _ (t .last .1 .1 .0) (t .result) (λ z. c .before .before .before .before .before .before .before .before .if1 .left (sym n ∙ z)) (omega (arith, t .ensures .within, s .pre .1 .for-answer, t .kept .1 .1 .0)) (t .ensures .leaves) (t .ensures .puts)
 
 pub answer-last-spec : {M : Type 1} → statement M
 answer-last-spec =

@@ -1,5 +1,5 @@
 -- `program_session::running::answer_part` meets its contract: where something is kept of the line, the whole of it is put into the line's room first, as far as that goes. Assumes nothing.
-use mathlib.Core.Path.{_≡_, sym}
+use mathlib.Core.Path.{sym}
 use native.Mathlib.Omega.{arith}
 use lib.Seq.{length-take-le}
 use Rattle.program_session.proofs.Answers.{kept-answers}

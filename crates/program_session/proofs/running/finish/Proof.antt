@@ -8,7 +8,7 @@ answer-last-requires : tie.Need-answer-last-requires
 answer-last-requires c κs = search needs
 
 write-piece-requires : tie.Need-write-piece-requires
-write-piece-requires c κs = known-gives _ _ _ (c .before .before .before .before .before .before .before .before .before .before .before .before .pre .1 .1) _ _ (c .before .before .before .before .before .before .answer-last .ensures .puts)
+write-piece-requires c κs = let e = c .before .before .before .before .before .before .answer-last .ensures in (e .fits, known-gives _ _ _ (c .before .before .before .before .before .before .before .before .before .before .before .before .pre .1 .1) _ _ (e .puts))
 
 say-unwritten-requires : tie.Need-say-unwritten-requires
 say-unwritten-requires c κs = search needs

@@ -5,7 +5,7 @@ use mathlib.Core.Path.{_≡_, refl, sym, _∙_}
 use Prim.Native.Nat.{_+_, _≤_, _<_, _-_}
 use lib.ListN.{length, take, drop}
 use Rattle.program_session.specs.Pieces.{with-line, after, gives}
-use Rattle.program_session.specs.Rooms.{counted, Roomy, Held, Known}
+use Rattle.program_session.specs.Rooms.{counted, Roomy, Held}
 use borrow.Author.Needs.{needs}
 use native.Mathlib.Omega.{arith}
 use Rattle.program_session.proofs.running.take_all.Statement.{statement}
@@ -36,7 +36,8 @@ take-lines-requires c κs = let d = c .before .before .before .before .before .l
 write-piece-requires : tie.Need-write-piece-requires Inv-loop μ-loop
 write-piece-requires c κs = let s = c .before .before .before .before .before .before .before .before .before .before .before .before .before .before .before .before .before .before .before in
     let d = c .before .before .before .before .before .before .before .before .before .before .before .before .before .before .loop in
-    known-gives _ _ _ (known-after _ _ _ (s .pre .1 .1) _ _ _ _ (d .inv .3) (d .inv .7)) _ _ (c .before .before .before .before .before .before .before .before .take-lines .ensures .puts)
+    let t = c .before .before .before .before .before .before .before .before .take-lines in
+    (t .ensures .fits, known-gives _ _ _ (known-after _ _ _ (s .pre .1 .1) _ _ _ _ (d .inv .3) (d .inv .7)) _ _ (t .ensures .puts))
 
 same-length : tie.Need-same-length Inv-loop μ-loop
 same-length c = search needs
@@ -51,7 +52,7 @@ returns : tie.Need-returns Inv-loop μ-loop
 returns c = let s = c .before .before .before .before .before .before .before .before .before .before .before .before .before .before .before .before .before .before .before .before .before in
     let d = c .before .before .before .before .before .before .before .before .before .before .before .before .before .before .before .before .loop in
     let t = c .before .before .before .before .before .before .before .before .before .before .take-lines in
-    (take (d .start + t .result .taken) (s .args .chunk .now), piece-held _ (s .args .chunk .now) (d .start) _ _ (d .inv .3) (t .result .taken) _ _ (t .ensures .holds) .pictures)
+    (d .start + t .result .taken, piece-held _ (s .args .chunk .now) (d .start) _ _ (d .inv .3) (t .result .taken) _ _ (t .ensures .holds) .pictures)
 
 add-start : tie.Need-add-start Inv-loop μ-loop
 add-start c = search needs

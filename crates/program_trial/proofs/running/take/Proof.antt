@@ -1,5 +1,4 @@
 -- `program_trial::running::take` meets its contract: the line stays within its room. Assumes nothing.
-use native.Mathlib.Omega.{arith}
 use Rattle.program_writing.proofs.Writer.{past-inside}
 use Rattle.program_fields.proofs.Parts.{counted}
 use borrow.Author.Needs.{needs}
