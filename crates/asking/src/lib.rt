@@ -74,7 +74,7 @@ fn room_of(p: &[u32], k: usize) -> u32
 
 // The registers answer for the job at position k in the tree of the job at position t.
 fn answer(p: &[u32], d: &mut [u32], t: usize, k: usize)
-    requires { ⌜ (t < positions Jobs) × ((k < positions Jobs) × ((priority (now p) k ≤ greatestPriority) × (base (now p) Jobs k < 4 * greatestSize))) ⌝ }
+    requires { ⌜ (k < positions Jobs) × ((priority (now p) k ≤ greatestPriority) × (base (now p) Jobs k < 4 * greatestSize)) ⌝ }
     ensures { λ _. ⌜ now (d .exit) ≡ answered (now (p .entry)) (now (d .entry)) t k ⌝ }
 {
     let tag = picture::tag_of(field_of(p, Table::Jobs, k, picture::NUMBER));

@@ -10,7 +10,7 @@ use lib.ListN.{length, length-set}
 use lib.Seq.{getD-set-same, getD-set-other}
 use lib.Dec.{eqb}
 use borrow.Author.Tests.{eq-eqb, ne-eqb}
-use Rattle.words.specs.Words.{put}
+use Rattle.words.specs.Words.{word, put}
 use Rattle.words.specs.Bits.{bit}
 use Rattle.words.specs.Signed.{eqZ}
 use Rattle.words.proofs.Signed.{eqZ-true, eqZ-false}
@@ -103,6 +103,21 @@ module _ (p : List ℕ) (s : sound p ≡ true) (t : ℕ) where
 
     in-A1 : A1 d0 ≡ 0
     in-A1 = getD-set-other d5 0 5 x 0 (λ q. omega arith) ∙ getD-set-same d4 5 0 0 (simp length-set (omega arith))
+
+    -- D0 has its key, and A2 and A3 stay
+    pub told-in-D0 : word (put (answered p d t k) 0 x) 0 ≡ x
+    unfolding answered
+    told-in-D0 = getD-set-same d5 0 x 0 (simp length-set (omega arith))
+
+    pub others-stay : (i : ℕ) → 6 ≤ i → word (put (answered p d t k) 0 x) i ≡ word d i
+    unfolding answered
+    others-stay i h =
+        getD-set-other d5 0 i x 0 (λ q. omega arith)
+        ∙ getD-set-other d4 5 i 0 0 (λ q. omega arith)
+        ∙ getD-set-other d3 4 i (room p k) 0 (λ q. omega arith)
+        ∙ getD-set-other d2 3 i (standing p k) 0 (λ q. omega arith)
+        ∙ getD-set-other d1 2 i (owner p Jobs k) 0 (λ q. omega arith)
+        ∙ getD-set-other d 1 i n1 0 (λ q. omega arith)
 
     standing-awake : timeout p k ≡ pos 0 → standing p k ≡ priority p k
     unfolding standing

@@ -21,7 +21,7 @@ use Rattle.memory.specs.Memory.{longest-room}
 use Rattle.traps.specs.Traps.{among, unknown, calls-one, calls-two, calls-three, trap-one, trap-two, trap-three, traps, call-named}
 use Rattle.manager.specs.Door.{checked, with-key, called}
 use Rattle.law_causes.specs.Faults.{Fault, Wrong, registers-not-eight, picture-not-sound, nobody-current, unknown-call}
-use Rattle.law_causes.specs.Reasons.{Reason, reasons-one, reasons-two, reasons-three, reasons-among, call-reasons, reasons}
+use Rattle.law_causes.specs.Reasons.{Reason, reasons-one, reasons-two, reasons-three, unknown-reasons, trap-reasons, call-reasons, reasons}
 use Rattle.law_causes.specs.Causes.{KeyOnlyForItsCause}
 use Rattle.law_causes.proofs.Matching.{Gives, gives-none, gives-more, gives-same}
 use Rattle.law_causes.proofs.Tests.{tells-by}
@@ -42,21 +42,21 @@ module _ (p d s : List ℕ) where
   Alike (c ∷ l) [] = ⊥
   Alike (c ∷ l) (r ∷ m) = (c .0 ≡ r .0) × (Told (c .1) (r .1) × Alike l m)
 
-  unknown-told : Told unknown ((unknown-call, bad-parameter) ∷ [])
+  unknown-told : Told unknown (unknown-reasons p d s)
   unknown-told = gives-more W _ _ _ _ (tells-by (W unknown-call) false bad-parameter (λ _. tt) (λ e. absurd (false-true e))) (λ _. gives-none W)
 
-  among-told : (n : ℕ) (l : List (ℕ × Call)) (m : List (ℕ × List Reason)) → Alike l m → Told (among n l unknown) (reasons-among p d s n m)
+  among-told : (n : ℕ) (l : List (ℕ × Call)) (m : List (ℕ × List Reason)) → Alike l m → Told (among n l unknown) (among n m (unknown-reasons p d s))
   among-told n [] [] A = unknown-told
   among-told n [] (r ∷ m) A = absurd A
   among-told n (c ∷ l) [] A = absurd A
-  among-told n (c ∷ l) (r ∷ m) A = subst (λ (x : ℕ). Told (cond (eqb n (c .0)) (c .1) (among n l unknown)) (cond (eqb n x) (r .1) (reasons-among p d s n m))) (A .0) (go (eqb n (c .0)) (among-told n l m (A .1 .1)))
+  among-told n (c ∷ l) (r ∷ m) A = subst (λ (x : ℕ). Told (cond (eqb n (c .0)) (c .1) (among n l unknown)) (cond (eqb n x) (r .1) (among n m (unknown-reasons p d s)))) (A .0) (go (eqb n (c .0)) (among-told n l m (A .1 .1)))
     where
-      go : (b : Bool) → Told (among n l unknown) (reasons-among p d s n m) → Told (cond b (c .1) (among n l unknown)) (cond b (r .1) (reasons-among p d s n m))
+      go : (b : Bool) → Told (among n l unknown) (among n m (unknown-reasons p d s)) → Told (cond b (c .1) (among n l unknown)) (cond b (r .1) (among n m (unknown-reasons p d s)))
       go true t = A .1 .0
       go false t = t
 
   module _ (h : sound p ≡ true) where
-    one-told : Told (trap-one (word d 0)) (reasons-among p d s (word d 0) (reasons-one p d s))
+    one-told : Told (trap-one (word d 0)) (among (word d 0) (reasons-one p d s) (unknown-reasons p d s))
     unfolding trap-one information longest-room
     one-told = among-told (word d 0) calls-one (reasons-one p d s) (
       refl,
@@ -96,19 +96,17 @@ module _ (p d s : List ℕ) where
       ),
     )
 
-    two-told : Told (trap-two (word d 0) s) (reasons-among p d s (word d 0) (reasons-two p d s))
+    two-told : Told (trap-two (word d 0) s) (among (word d 0) (reasons-two p d s) (unknown-reasons p d s))
     unfolding trap-two
     two-told = among-told (word d 0) (calls-two s) (reasons-two p d s) (refl, (open-gives p d s h, (refl, (close-gives p d s h, tt))))
 
-    three-told : Told (trap-three (word d 0)) (reasons-among p d s (word d 0) (reasons-three p d s))
+    three-told : Told (trap-three (word d 0)) (among (word d 0) (reasons-three p d s) (unknown-reasons p d s))
     unfolding trap-three
     three-told = among-told (word d 0) calls-three (reasons-three p d s) (refl, (pending-gives p d s h, (refl, (fetch-gives p d s h, (refl, (send-gives p d s h, tt))))))
 
     pub named-told : (trap : ℕ) → Told (call-named trap s) (call-reasons p d s trap)
     unfolding call-named
-    named-told trap = among-told trap (traps (word d 0) s)
-        ((1, reasons-among p d s (word d 0) (reasons-one p d s)) ∷ (2, reasons-among p d s (word d 0) (reasons-two p d s)) ∷ (3, reasons-among p d s (word d 0) (reasons-three p d s)) ∷ [])
-        (refl, (one-told, (refl, (two-told, (refl, (three-told, tt))))))
+    named-told trap = among-told trap (traps (word d 0) s) (trap-reasons p d s) (refl, (one-told, (refl, (two-told, (refl, (three-told, tt))))))
 
   -- the checks of a trap call: registers not 8, then the door's and the call's own
   door-checks : ℕ → List Check

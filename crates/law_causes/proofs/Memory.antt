@@ -17,9 +17,11 @@ use Rattle.picture.specs.declared.Area.{Area}
 use Rattle.picture.specs.declared.Area.the-variants.{Heap, Transient}
 use Rattle.sound.specs.Sound.{sound}
 use Rattle.calls.proofs.Call.{keys-differ}
+use Rattle.traps.specs.Traps.{among}
+use Rattle.traps.proofs.Among.{among-by}
 use Rattle.manager.specs.Door.{called}
-use Rattle.law_causes.specs.Faults.{Fault, Wrong, unknown-call, no-block-long-enough}
-use Rattle.law_causes.specs.Reasons.{Reason, Because, NoneOf, reasons-among, reasons-one, reasons-two, reasons-three, call-reasons, door-reasons, create-before, create-bytes, take-before, take-bytes, open-before, open-bytes, ask-reasons, remove-reasons, force-remove-reasons, suspend-reasons, release-reasons, activate-reasons, set-priority-reasons, give-back-reasons, close-reasons, fetch-reasons, send-reasons}
+use Rattle.law_causes.specs.Faults.{Fault, Wrong, no-block-long-enough}
+use Rattle.law_causes.specs.Reasons.{Reason, Because, NoneOf, reasons-one, reasons-two, reasons-three, unknown-reasons, trap-reasons, call-reasons, door-reasons, create-before, create-bytes, take-before, take-bytes, open-before, open-bytes, ask-reasons, remove-reasons, force-remove-reasons, suspend-reasons, release-reasons, activate-reasons, set-priority-reasons, give-back-reasons, close-reasons, fetch-reasons, send-reasons}
 use Rattle.law_causes.specs.Memory.{Asks, creating, taking, opening, OutOfMemory, OutOfMemoryExactly}
 use Rattle.law_causes.proofs.Matching.{NoKey, because-behind, behind-because, no-key-no-because}
 use Rattle.law_causes.proofs.Causes.{key-only-for-its-cause}
@@ -55,19 +57,6 @@ module _ (p d s : List ℕ) where
   abbrev W : Fault → Type 0
   W = Wrong p d s
 
-  -- what is found behind a number of a table is there under that number, or is the unknown call
-  abbrev Each : (List Reason → Type 0) → ℕ → List (ℕ × List Reason) → Type 0
-  Each P n [] = Unit {0}
-  Each P n (e ∷ l) = (n ≡ e .0 → P (e .1)) × Each P n l
-
-  among-each : (P : List Reason → Type 0) (n : ℕ) (l : List (ℕ × List Reason)) → Each P n l → P (reasons-among p d s n []) → P (reasons-among p d s n l)
-  among-each P n [] E u = u
-  among-each P n (e ∷ l) E u = go (eqb n (e .0)) refl (among-each P n l (E .1) u)
-    where
-      go : (b : Bool) → eqb n (e .0) ≡ b → P (reasons-among p d s n l) → P (cond b (e .1) (reasons-among p d s n l))
-      go true q z = E .0 (eqb-true n (e .0) q)
-      go false q z = z
-
   -- the key -3 comes from a call that asks for room: the area, the bytes, what is checked before, and that no block is long enough
   pub record Short (trap : ℕ) : Type 0 where
     pub area : Area
@@ -83,8 +72,8 @@ module _ (p d s : List ℕ) where
   never : (trap : ℕ) (l : List Reason) → NoKey W out-of-memory l → Then trap l
   never trap l n b = absurd (no-key-no-because W out-of-memory l n not-0 b)
 
-  unknown : (trap : ℕ) → Then trap ((unknown-call, bad-parameter) ∷ [])
-  unknown trap = never trap ((unknown-call, bad-parameter) ∷ []) (not-15, tt)
+  unknown : (trap : ℕ) → Then trap (unknown-reasons p d s)
+  unknown trap = never trap (unknown-reasons p d s) (not-15, tt)
 
   room : (trap : ℕ) (a : Area) (n : ℕ) (l : List Reason) → Asks p d s trap a n l → NoKey W out-of-memory l → Then trap (l ++ ((no-block-long-enough a n, out-of-memory) ∷ []))
   room trap a n l A N b =
@@ -92,8 +81,8 @@ module _ (p d s : List ℕ) where
       record { area = a; bytes = n; before = l; asks = A; passed = r .0; shorter = ⊎-elim (λ z. z .0) (λ z. absurd (not-0 (z .1))) (r .1) }
 
   -- no reason of the other calls has that key
-  one : Then 1 (reasons-among p d s (word d 0) (reasons-one p d s))
-  one = among-each (Then 1) (word d 0) (reasons-one p d s) (
+  one : Then 1 (among (word d 0) (reasons-one p d s) (unknown-reasons p d s))
+  one = among-by (Then 1) (word d 0) (reasons-one p d s) (unknown-reasons p d s) (
     (λ _. never 1 [] tt),
     (
       (λ e. room 1 Transient (create-bytes p d s) (create-before p d s) (creating e) (search others depth 12)),
@@ -126,25 +115,25 @@ module _ (p d s : List ℕ) where
   )
       (unknown 1)
 
-  two : Then 2 (reasons-among p d s (word d 0) (reasons-two p d s))
-  two = among-each (Then 2) (word d 0) (reasons-two p d s) (
+  two : Then 2 (among (word d 0) (reasons-two p d s) (unknown-reasons p d s))
+  two = among-by (Then 2) (word d 0) (reasons-two p d s) (unknown-reasons p d s) (
     (λ e. room 2 Heap (open-bytes p d s) (open-before p d s) (opening e) (search others depth 12)),
     ((λ _. never 2 (close-reasons p d s) (search others depth 12)), tt),
   )
       (unknown 2)
 
-  three : Then 3 (reasons-among p d s (word d 0) (reasons-three p d s))
-  three = among-each (Then 3) (word d 0) (reasons-three p d s) (
+  three : Then 3 (among (word d 0) (reasons-three p d s) (unknown-reasons p d s))
+  three = among-by (Then 3) (word d 0) (reasons-three p d s) (unknown-reasons p d s) (
     (λ _. never 3 (fetch-reasons p d s) (search others depth 12)),
     ((λ _. never 3 (fetch-reasons p d s) (search others depth 12)), ((λ _. never 3 (send-reasons p d s) (search others depth 12)), tt)),
   )
       (unknown 3)
 
   named : (trap : ℕ) → Then trap (call-reasons p d s trap)
-  named trap = among-each (Then trap) trap (
-      (1, reasons-among p d s (word d 0) (reasons-one p d s)) ∷ (2, reasons-among p d s (word d 0) (reasons-two p d s)) ∷ (3, reasons-among p d s (word d 0) (reasons-three p d s)) ∷ []
-      )
-      (at 1 (reasons-among p d s (word d 0) (reasons-one p d s)) one, (at 2 (reasons-among p d s (word d 0) (reasons-two p d s)) two, (at 3 (reasons-among p d s (word d 0) (reasons-three p d s)) three, tt)))
+  named trap = among-by (Then trap) trap (trap-reasons p d s) (unknown-reasons p d s) (
+    at 1 (among (word d 0) (reasons-one p d s) (unknown-reasons p d s)) one,
+    (at 2 (among (word d 0) (reasons-two p d s) (unknown-reasons p d s)) two, (at 3 (among (word d 0) (reasons-three p d s) (unknown-reasons p d s)) three, tt)),
+  )
       (unknown trap)
     where
       at : (n : ℕ) (l : List Reason) → Then n l → trap ≡ n → Then trap l

@@ -29,7 +29,7 @@ use Rattle.law_picks.proofs.Rule.{NobodyReady, chosen-is-who-the-rule-picks}
 use Rattle.law_picks.proofs.Given.{pick-answers-the-number, pick-answers-nobody}
 use Rattle.law_turns.proofs.Pick.{ready-used}
 use Rattle.manager.specs.Turn.{pick-answer, tick-key}
-use Rattle.law_causes.specs.Others.{GoodSizes, FreshKeys, FreshOnlyForItsCause, Whole, Stands, first, next, HasText, system's, driver's, TextKeys, TextOnlyForItsCause, TurnKeys, TurnsOnlyForTheirCause}
+use Rattle.law_causes.specs.Others.{KeyExactly, GoodSizes, FreshOnlyForItsCause, Whole, StringStands, first, next, HasText, system's, driver's, TextOnlyForItsCause, TurnKeys, TurnsOnlyForTheirCause}
 
 -- fresh
 good-says : (l n h : ℕ) → fresh-good l n h ≡ true → GoodSizes l n h
@@ -55,23 +55,14 @@ says-good : (l n h : ℕ) → GoodSizes l n h → fresh-good l n h ≡ true
 unfolding fresh-good
 says-good l n h G = rw (eq-eqb l n (G .lent), le-leb least-size n (G .least), le-leb n greatest-size (G .most), eq-eqb (n % 4) 0 (G .fours), eq-eqb (h % 4) 0 (G .heap-fours), le-leb 4 h (G .heap-least), le-leb (heap-base + h + 4) n (G .transient-least))
 
+-- a key that a test decides, and what the test tells
+exactly-by : (good : Type 0) (key refusal : ℤ) (b : Bool) → (done ≡ refusal → ⊥) → key ≡ cond b done refusal → (b ≡ true → good) → (good → b ≡ true) → KeyExactly good key refusal
+exactly-by good key refusal true n e f g = record { done-where = λ _. e; done-only = λ _. f refl; refused-where = λ w. absurd (w (f refl)); refused-only = λ k _. n (sym e ∙ k) }
+exactly-by good key refusal false n e f g = record { done-where = λ x. absurd (false-true (g x)); done-only = λ k. absurd (n (sym k ∙ e)); refused-where = λ _. e; refused-only = λ _ x. false-true (g x) }
+
 pub fresh-only-for-its-cause : FreshOnlyForItsCause
 unfolding fresh-key
-fresh-only-for-its-cause p n h = go (fresh-good (length p) n h) refl
-  where
-    go : (b : Bool) → fresh-good (length p) n h ≡ b → FreshKeys p n h
-    go true e = record {
-      made = λ _. rw e;
-      made-only = λ _. good-says (length p) n h e;
-      refused = λ w. absurd (w (good-says (length p) n h e));
-      refused-only = λ k _. keys-differ done out-of-range (λ z. omega arith) (rw e at k);
-    }
-    go false e = record {
-      made = λ G. absurd (false-true (sym e ∙ says-good (length p) n h G));
-      made-only = λ k. absurd (keys-differ out-of-range done (λ z. omega arith) (rw e at k));
-      refused = λ _. rw e;
-      refused-only = λ _ G. false-true (sym e ∙ says-good (length p) n h G);
-    }
+fresh-only-for-its-cause p n h = exactly-by _ _ out-of-range (fresh-good (length p) n h) (keys-differ done out-of-range (λ z. omega arith)) refl (good-says (length p) n h) (says-good (length p) n h)
 
 -- a job that is picked has a number of its own, and where nobody is ready the key is 0
 refusal-is-none : (p : List ℕ) → sound p ≡ true → picked-number p ≡ nobody → picked-key p ≡ not-sound → ⊥
@@ -85,19 +76,25 @@ refusal-is-none p h n k = ⊎-elim
     absurd (omega arith))
     (chosen-is-who-the-rule-picks p)
 
+tick-tells : (p : List ℕ) → tick-key p ≡ cond (sound p) done not-sound
+unfolding tick-key
+tick-tells p = refl
+
 -- the keys of the pick and of the tick
 pub turns-only-for-their-cause : TurnsOnlyForTheirCause
-unfolding pick-answer tick-key
+unfolding pick-answer
 turns-only-for-their-cause p = go (sound p) refl
   where
+    ticks : KeyExactly (sound p ≡ true) (tick-key p) not-sound
+    ticks = exactly-by (sound p ≡ true) (tick-key p) not-sound (sound p) (keys-differ done not-sound (λ z. omega arith)) (tick-tells p) (λ e. e) (λ e. e)
+
     go : (b : Bool) → sound p ≡ b → TurnKeys p
     go true e = record {
       pick-refuses = λ z. absurd (false-true (sym z ∙ e));
       pick-refuses-only = λ n k. absurd (refusal-is-none p e (rw e at n) (rw e at k));
-      tick-refuses = λ z. absurd (false-true (sym z ∙ e));
-      tick-refuses-only = λ k. absurd (keys-differ done not-sound (λ z. omega arith) (rw e at k));
+      tick = ticks;
     }
-    go false e = record { pick-refuses = λ _. rw e (refl, refl); pick-refuses-only = λ _ _. e; tick-refuses = λ _. rw e; tick-refuses-only = λ _. e }
+    go false e = record { pick-refuses = λ _. rw e (refl, refl); pick-refuses-only = λ _ _. e; tick = ticks }
 
 -- the text of a key
 whole-says : (text : List ℕ) (at : ℕ) → whole-at text at ≡ true → Whole text at
@@ -115,28 +112,20 @@ module _ (text : List ℕ) where
   past-cut : (at : ℕ) → whole-at text at ≡ false → past (string-at text at) (length text) ≡ length text
   past-cut at e = rw e
 
-  stands-at : (n at : ℕ) → Stands text n at → nth-at text n 0 ≡ at
+  stands-at : (n at : ℕ) → StringStands text n at → nth-at text n 0 ≡ at
   stands-at n at first = refl
   stands-at n at (next {n = m} {at = b} S w) = nth-next m 0 ∙ ap (λ (x : ℕ). past (string-at text x) (length text)) (stands-at m b S) ∙ past-whole b (le-leb (b + 2 + length-word text b) (length text) w)
 
-  at-stands : (n : ℕ) → whole-at text (nth-at text n 0) ≡ true → Stands text n (nth-at text n 0)
+  at-stands : (n : ℕ) → whole-at text (nth-at text n 0) ≡ true → StringStands text n (nth-at text n 0)
   at-stands zero e = first
   at-stands (suc n) e = go (whole-at text (nth-at text n 0)) refl (λ z. at-stands n z)
     where
-      go : (b : Bool) → whole-at text (nth-at text n 0) ≡ b → (whole-at text (nth-at text n 0) ≡ true → Stands text n (nth-at text n 0)) → Stands text (suc n) (nth-at text (suc n) 0)
+      go : (b : Bool) → whole-at text (nth-at text n 0) ≡ b → (whole-at text (nth-at text n 0) ≡ true → StringStands text n (nth-at text n 0)) → StringStands text (suc n) (nth-at text (suc n) 0)
       go true w again = rw (nth-next n 0, past-whole (nth-at text n 0) w) (next (again w) (whole-says text (nth-at text n 0) w))
       go false w again =
           let z = nth-next n 0 ∙ past-cut (nth-at text n 0) w in
           let x = whole-says text (nth-at text (suc n) 0) e in
           absurd (omega arith)
-
--- a key and whether there is its text, both ways
-keys-by : (key : ℤ) (system driver : List ℕ) (b : Bool) → error-key key system driver ≡ cond b done not-found → (b ≡ true → HasText system driver key) → (HasText system driver key → b ≡ true) → TextKeys key system driver
-keys-by key system driver b e f g = go b e f g
-  where
-    go : (b : Bool) → error-key key system driver ≡ cond b done not-found → (b ≡ true → HasText system driver key) → (HasText system driver key → b ≡ true) → TextKeys key system driver
-    go true e f g = record { told = λ _. e; told-only = λ _. f refl; refused = λ w. absurd (w (f refl)); refused-only = λ k _. keys-differ done not-found (λ z. omega arith) (sym e ∙ k) }
-    go false e f g = record { told = λ T. absurd (false-true (g T)); told-only = λ k. absurd (keys-differ not-found done (λ z. omega arith) (sym e ∙ k)); refused = λ _. e; refused-only = λ _ T. false-true (g T) }
 
 system-key : (system driver : List ℕ) (n : ℕ) → error-key (negsuc n) system driver ≡ cond (ltb n 21 && whole-at system (nth-at system n 0)) done not-found
 unfolding error-key
@@ -165,10 +154,13 @@ zero-has-none : (system driver : List ℕ) (key : ℤ) → HasText system driver
 zero-has-none system driver key (system's {n = n} l S w) e = keys-differ (negsuc n) (pos 0) (λ z. omega arith) e
 zero-has-none system driver key (driver's {n = n} w) e = keys-differ (pos (suc n)) (pos 0) (λ z. omega arith) e
 
+text-by : (key : ℤ) (system driver : List ℕ) (b : Bool) → error-key key system driver ≡ cond b done not-found → (b ≡ true → HasText system driver key) → (HasText system driver key → b ≡ true) → KeyExactly (HasText system driver key) (error-key key system driver) not-found
+text-by key system driver b = exactly-by (HasText system driver key) (error-key key system driver) not-found b (keys-differ done not-found (λ z. omega arith))
+
 pub text-only-for-its-cause : TextOnlyForItsCause
 unfolding error-key
-text-only-for-its-cause (pos zero) system driver = keys-by (pos 0) system driver false refl (λ z. absurd (false-true z)) (λ T. absurd (zero-has-none system driver (pos 0) T refl))
-text-only-for-its-cause (pos (suc n)) system driver = keys-by (pos (suc n)) system driver (whole-at driver (suc n)) (driver-key system driver n) (λ z. driver's (whole-says driver (suc n) z)) (driver-back system driver n)
-text-only-for-its-cause (negsuc n) system driver = keys-by (negsuc n) system driver (ltb n 21 && whole-at system (nth-at system n 0)) (system-key system driver n)
+text-only-for-its-cause (pos zero) system driver = text-by (pos 0) system driver false refl (λ z. absurd (false-true z)) (λ T. absurd (zero-has-none system driver (pos 0) T refl))
+text-only-for-its-cause (pos (suc n)) system driver = text-by (pos (suc n)) system driver (whole-at driver (suc n)) (driver-key system driver n) (λ z. driver's (whole-says driver (suc n) z)) (driver-back system driver n)
+text-only-for-its-cause (negsuc n) system driver = text-by (negsuc n) system driver (ltb n 21 && whole-at system (nth-at system n 0)) (system-key system driver n)
     (λ z. let b = both (ltb n 21) (whole-at system (nth-at system n 0)) z in system's (ltb-true n 21 (b .0)) (at-stands system n (b .1)) (whole-says system (nth-at system n 0) (b .1)))
     (system-back system driver n)

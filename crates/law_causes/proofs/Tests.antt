@@ -63,6 +63,11 @@ listed-length : (f : ℕ → ℕ) (c : ℕ) → length (listed f c) ≡ c
 listed-length f zero = refl
 listed-length f (suc c) = let e = listed-length f c in let z = length-append (listed f c) (f c ∷ []) in omega arith
 
+-- of two tests that fail together, one fails
+one-fails : (a b : Bool) → a && b ≡ false → (a ≡ false) ⊎ (b ≡ false)
+one-fails true b e = inr e
+one-fails false b e = inl refl
+
 -- a test and what it tells
 pub tells-by : (wrong : Type 0) (b : Bool) (k : ℤ) → (b ≡ false → wrong) → (b ≡ true → wrong → ⊥) → Tells wrong (b, k) k
 tells-by wrong b k f g = record { fails = λ h. (f h, refl); passes = g }
@@ -165,14 +170,10 @@ module _ (p d s : List ℕ) where
       (λ e w. let l = leb-false 1 (priority p (position n)) (not-true _ e) in absurd (omega arith))
 
   pub tells-activity : (u : ℕ) → Tells (W (priority-outside 1 u)) (activity-good u, bad-parameter) bad-parameter
-  tells-activity u = tells-by (W (priority-outside 1 u)) (activity-good u) bad-parameter (within (leb 1 u) refl (leb u greatest-priority) refl)
+  tells-activity u = tells-by (W (priority-outside 1 u)) (activity-good u) bad-parameter
+      (λ e. ⊎-elim (λ x. inl (leb-false 1 u x)) (λ x. inr (leb-false u greatest-priority x)) (one-fails (leb 1 u) (leb u greatest-priority) e))
       (λ e w. let b = both (leb 1 u) (leb u greatest-priority) e in let l = leb-true 1 u (b .0) in let m = leb-true u greatest-priority (b .1) in
       ⊎-elim (λ (x : u < 1). absurd (omega arith)) (λ (x : greatest-priority < u). absurd (omega arith)) w)
-    where
-      within : (a : Bool) → leb 1 u ≡ a → (b : Bool) → leb u greatest-priority ≡ b → a && b ≡ false → (u < 1) ⊎ (greatest-priority < u)
-      within true x true y e = absurd (false-true (sym e))
-      within true x false y e = inr (leb-false u greatest-priority y)
-      within false x b y e = inl (leb-false 1 u x)
 
   pub tells-priority : (u : ℕ) → Tells (W (priority-outside 0 u)) (priority-good u, bad-parameter) bad-parameter
   tells-priority u = tells-by (W (priority-outside 0 u)) (priority-good u) bad-parameter (λ e. inr (leb-false u greatest-priority e))
@@ -180,14 +181,10 @@ module _ (p d s : List ℕ) where
 
   pub tells-length : (n : ℕ) → Tells (W (length-outside n)) (length-good n, bad-parameter) bad-parameter
   unfolding length-good
-  tells-length n = tells-by (W (length-outside n)) (leb 1 n && ltb n 0x8000_0000) bad-parameter (within (leb 1 n) refl (ltb n 0x8000_0000) refl)
+  tells-length n = tells-by (W (length-outside n)) (leb 1 n && ltb n 0x8000_0000) bad-parameter
+      (λ e. ⊎-elim (λ x. let l = leb-false 1 n x in inl (omega arith)) (λ x. inr (ltb-false n 0x8000_0000 x)) (one-fails (leb 1 n) (ltb n 0x8000_0000) e))
       (λ e w. let b = both (leb 1 n) (ltb n 0x8000_0000) e in let l = leb-true 1 n (b .0) in let m = ltb-true n 0x8000_0000 (b .1) in
       ⊎-elim (λ (x : n ≡ 0). absurd (omega arith)) (λ (x : 0x8000_0000 ≤ n). absurd (omega arith)) w)
-    where
-      within : (a : Bool) → leb 1 n ≡ a → (b : Bool) → ltb n 0x8000_0000 ≡ b → a && b ≡ false → (n ≡ 0) ⊎ (0x8000_0000 ≤ n)
-      within true x true y e = absurd (false-true (sym e))
-      within true x false y e = inr (ltb-false n 0x8000_0000 y)
-      within false x b y e = let l = leb-false 1 n x in inl (omega arith)
 
   pub tells-plain : (a : ℕ) → Tells (W (no-plain-block a)) (is-plain-room p a, bad-parameter) bad-parameter
   unfolding is-plain-room plain-room

@@ -1,11 +1,9 @@
 -- "Each key is given only for its cause" (rule 62): what can be wrong with each call, in the order of its checks, and the key of each.
 use Prim.Native.Nat.{ℕ, _+_}
 use mathlib.Core.Path.{_≡_}
-use mathlib.Core.Bool.{cond}
 use mathlib.Core.List.{List, [], _∷_, _++_}
 use mathlib.Core.Logic.{_⊎_}
 use lib.IntN.{ℤ}
-use lib.Dec.{eqb}
 use Rattle.words.specs.Words.{word, low-word}
 use Rattle.picture.specs.Keys.{done, not-complete, invalid-job, out-of-memory, channel-not-open, not-found, bad-name, bad-parameter, not-sound}
 use Rattle.picture.specs.declared.Table.the-variants.{Jobs, Channels}
@@ -15,6 +13,7 @@ use Rattle.blocks.specs.Header.{rounded}
 use Rattle.calls.specs.Registers.{D1, D2, D3, A0, A1, meant}
 use Rattle.effects.specs.Effects.{low-byte}
 use Rattle.names.specs.Names.{named, number-in}
+use Rattle.traps.specs.Traps.{among}
 use Rattle.law_causes.specs.Faults.{Fault, registers-not-eight, picture-not-sound, nobody-current, unknown-call, not-live, owner-not-live, below-four, positions-used-up, tags-used-up, no-block-long-enough, outside-the-tree, job-zero, tree-active, job-active, priority-outside, suspension-outside, activation-outside, length-outside, no-plain-block, not-pipe, bare-pipe, other-character, number-outside, timeout-not-zero, queue-empty, queue-full}
 
 -- a fault and its key
@@ -146,14 +145,19 @@ module _ (p d s : List ℕ) where
   abbrev pub reasons-three : List (ℕ × List Reason)
   reasons-three = (0x0, fetch-reasons) ∷ (0x1, fetch-reasons) ∷ (0x5, send-reasons) ∷ []
 
-  -- the reasons behind a number in a table; "unknown trap or call" where it isn't there
-  abbrev pub reasons-among : ℕ → List (ℕ × List Reason) → List Reason
-  reasons-among n [] = (unknown-call, bad-parameter) ∷ []
-  reasons-among n (e ∷ l) = cond (eqb n (e .0)) (e .1) (reasons-among n l)
+  -- "unknown trap or call", where the number isn't in a table
+  abbrev pub unknown-reasons : List Reason
+  unknown-reasons = (unknown-call, bad-parameter) ∷ []
+
+  -- the reasons of the traps, each by its code
+  abbrev pub trap-reasons : List (ℕ × List Reason)
+  trap-reasons =
+      (1, among (word d 0) reasons-one unknown-reasons) ∷
+      (2, among (word d 0) reasons-two unknown-reasons) ∷
+      (3, among (word d 0) reasons-three unknown-reasons) ∷ []
 
   abbrev pub call-reasons : ℕ → List Reason
-  call-reasons trap =
-      reasons-among trap ((1, reasons-among (word d 0) reasons-one) ∷ (2, reasons-among (word d 0) reasons-two) ∷ (3, reasons-among (word d 0) reasons-three) ∷ [])
+  call-reasons trap = among trap trap-reasons unknown-reasons
 
   -- "Order: registers not 8 .., picture, nobody current, unknown trap or call .., then as listed per call"
   abbrev pub door-reasons : List Reason

@@ -2,7 +2,6 @@
 pub mod Tables
 pub mod Taken
 pub mod Areas
-pub mod Lie
 pub mod Owned
 pub mod Sound
 pub mod Calls

@@ -32,7 +32,7 @@ use Rattle.ending.specs.Ended.{ended}
 use Rattle.law_ending.specs.Promise.{Gone, OldEntry, OfTheTree, OldBlock, Free, in-use-at, gone-size, gone-bytes, Takes}
 use Rattle.law_ending.proofs.Taken.{going, Taken}
 use Rattle.law_ending.proofs.Areas.{Kept, extra}
-use Rattle.law_ending.proofs.Lie.{Lies, each-longword-lies-in-a-block, no-longword-lies-in-two-blocks}
+use Rattle.law_areas.proofs.Lie.{Lies, each-longword-lies-in-a-block, no-longword-lies-in-two-blocks}
 use Rattle.law_ending.proofs.Owned.{otherwise}
 use Rattle.law_ending.proofs.Sound.{ended-tables, ended-area}
 use Rattle.law_ending.proofs.OfTheTree.{member-channel, of-the-tree-goes}

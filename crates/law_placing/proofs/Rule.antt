@@ -1,12 +1,11 @@
 -- Where a block is placed: the walk goes upwards, so the first block that is enough is the lowest.
 use Prim.Native.Nat.{ℕ, _+_, _≤_, _<_}
 use mathlib.Core.Path.{_≡_, refl, sym, ap, _∙_, subst}
-use mathlib.Core.Bool.{Bool, true, false, cond, _&&_}
+use mathlib.Core.Bool.{Bool, true, false, cond}
 use mathlib.Core.List.{List, [], _∷_}
 use mathlib.Core.Logic.{⊎-elim, _⊎_, inl, inr}
 use native.Mathlib.Omega.{arith}
-use borrow.Author.Tests.{lt-ltb, le-leb, lt-leb, leb-false}
-use lib.Dec.{leb}
+use borrow.Author.Tests.{lt-ltb, le-leb}
 use Rattle.words.specs.Each.{In}
 use Rattle.words.proofs.Tests.{false-true}
 use Rattle.blocks.specs.Header.{size, free}
@@ -14,7 +13,7 @@ use Rattle.blocks.specs.Walk.{starts}
 use Rattle.blocks.proofs.Starts.{Rising, rising-in, starts-rising, starts-in}
 use Rattle.placing.specs.Place.{fits, first, chosen, answer}
 use Rattle.placing.specs.declared.Placement.the-variants.{At}
-use Rattle.placing.proofs.Chosen.{Chosen, chosen-is-free-and-enough}
+use Rattle.placing.proofs.Chosen.{Chosen, not-fitting, not-fit}
 use Rattle.placing.proofs.Answer.{answer-at, placed-at-a-chosen-block}
 use Rattle.law_placing.specs.Rule.{LowestEnough, PlacedAtTheLowest}
 
@@ -40,14 +39,6 @@ first-is f lo e (k ∷ l) R i m h n = go (f k) refl (λ o. first-is f (k + 1) e 
     go true q again = ⊎-elim (λ (z : i ≡ k). sym z) (λ o. let r = rising-in (k + 1) e l (R .1 .1) i o .0 in absurd (false-true (sym (n k (inl refl) (omega arith)) ∙ q))) m
     go false q again = ⊎-elim (λ (z : i ≡ k). absurd (false-true (sym q ∙ sym (ap f z) ∙ h))) again m
 
-fails-by : (z : Bool) (n s : ℕ) → (z ≡ true → s < n) → z && leb n s ≡ false
-fails-by true n s h = lt-leb n s (h refl)
-fails-by false n s h = refl
-
-by-failing : (z : Bool) (n s : ℕ) → z && leb n s ≡ false → z ≡ true → s < n
-by-failing true n s h q = leb-false n s h
-by-failing false n s h q = absurd (false-true q)
-
 pub placed-at-the-lowest : PlacedAtTheLowest
 unfolding chosen fits answer
 placed-at-the-lowest p base e n i = (to, back)
@@ -60,12 +51,12 @@ placed-at-the-lowest p base e n i = (to, back)
           there = C .there;
           is-free = C .is-free;
           enough = C .enough;
-          lowest = λ j m l. by-failing (free p j) n (size p j) (below-the-first (fits p n) base e (starts p base e) (starts-rising p base e) j m (subst (λ (x : ℕ). j < x) (sym (a .1)) l));
+          lowest = λ j m l. not-fitting (free p j) n (size p j) (below-the-first (fits p n) base e (starts p base e) (starts-rising p base e) j m (subst (λ (x : ℕ). j < x) (sym (a .1)) l));
         }
 
     back : LowestEnough p base e n i → answer p base e n ≡ At i
     back L =
         let z : first (fits p n) e (starts p base e) ≡ i =
-        first-is (fits p n) base e (starts p base e) (starts-rising p base e) i (L .there) (rw (L .is-free, le-leb n (size p i) (L .enough))) (λ j m l. fails-by (free p j) n (size p j) (L .lowest j m l)) in
+        first-is (fits p n) base e (starts p base e) (starts-rising p base e) i (L .there) (rw (L .is-free, le-leb n (size p i) (L .enough))) (λ j m l. not-fit (free p j) n (size p j) (L .lowest j m l)) in
         let b = starts-in p base e i (L .there) .1 in
         rw (z, lt-ltb i e b)

@@ -15,7 +15,7 @@ use Rattle.asking.specs.Ask.{ask}
 use Rattle.traps.specs.Traps.{trap-one, call-named}
 use Rattle.manager.specs.Door.{with-key}
 use Rattle.manager.proofs.Door.{named-one}
-use Rattle.law_asking.proofs.Answer.{answers-so, ask-where-done}
+use Rattle.law_asking.proofs.Answer.{told-in-D0, others-stay, answers-so, ask-where-done}
 use Rattle.law_promises.specs.Asking.{Asked, AskingTells}
 use Rattle.law_promises.proofs.Done.{where-the-call-is-done}
 
@@ -29,6 +29,8 @@ module _ (p d name : List ℕ) (l : length d ≡ 8) (s : sound p ≡ true) where
         job-lives = b;
         under = u;
         answers = answers-so p s (position (D2 d)) (position (meant p (D1 d))) 0 d l;
+        done-told = told-in-D0 p s (position (D2 d)) (position (meant p (D1 d))) 0 d l;
+        others = others-stay p s (position (D2 d)) (position (meant p (D1 d))) 0 d l;
         picture = refl;
       }))
 

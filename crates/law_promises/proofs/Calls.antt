@@ -16,20 +16,8 @@ use Rattle.ending.specs.Remove.{remove, force-remove}
 use Rattle.memory.specs.Memory.{longest-room, take, give-back}
 use Rattle.opening.specs.Calls.{open-channel}
 use Rattle.channels.specs.Calls.{close-channel, pending, fetch, send}
-use Rattle.traps.specs.Traps.{among, unknown, calls-one, calls-two, calls-three, trap-one, trap-two, trap-three, traps, call-named}
-
--- P holds of each call of a list where its number is n
-abbrev Behind : (Call → Type 0) → ℕ → List (ℕ × Call) → Type 0
-Behind P n [] = Unit {0}
-Behind P n (e ∷ l) = (n ≡ e .0 → P (e .1)) × Behind P n l
-
-among-by : (P : Call → Type 0) (n : ℕ) (l : List (ℕ × Call)) (c : Call) → Behind P n l → P c → P (among n l c)
-among-by P n [] c b r = r
-among-by P n (e ∷ l) c b r = go (eqb n (e .0)) refl (among-by P n l c (b .1) r)
-  where
-    go : (t : Bool) → eqb n (e .0) ≡ t → P (among n l c) → P (cond t (e .1) (among n l c))
-    go true q z = b .0 (eqb-true n (e .0) q)
-    go false q z = z
+use Rattle.traps.proofs.Among.{among-by}
+use Rattle.traps.specs.Traps.{unknown, calls-one, calls-two, calls-three, trap-one, trap-two, trap-three, traps, call-named}
 
 -- P holds of each call; of the priority call, of fetch and of send where it is the one named
 pub record EachCall (trap : ℕ) (p d name : List ℕ) (P : Outcome → Type 0) : Type 0 where

@@ -1,5 +1,5 @@
 -- Rule 78, of the call: trap 1 $2 answers for the members of a tree and for no other job, and with the next greater tag.
-use Prim.Native.Nat.{ℕ}
+use Prim.Native.Nat.{ℕ, _≤_}
 use mathlib.Core.Path.{_≡_}
 use mathlib.Core.Bool.{true}
 use mathlib.Core.List.{List}
@@ -19,6 +19,9 @@ pub record Asked (p d : List ℕ) (o : Outcome) : Type 0 where
   pub job-lives : live p Jobs (meant p (D1 d)) ≡ true
   pub under : Under p (position (D2 d)) (position (meant p (D1 d)))
   pub answers : Answers p (position (D2 d)) (position (meant p (D1 d))) (o .registers)
+  -- "success sets D0 to 0"; A2 and A3 and the picture stay
+  pub done-told : word (o .registers) 0 ≡ 0
+  pub others : (i : ℕ) → 6 ≤ i → word (o .registers) i ≡ word d i
   pub picture : o .picture ≡ p
 
 abbrev pub AskingTells : Type 0

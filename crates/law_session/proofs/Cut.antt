@@ -10,7 +10,7 @@ use native.Mathlib.Omega.{arith}
 use borrow.Author.Tests.{ne-eqb}
 use Rattle.program_digits.specs.Digits.{pick}
 use Rattle.program_session.specs.Session.{first-picture, line-text, line-picture, with-first, lines, texts, session}
-use Rattle.program_session.specs.Pieces.{State, with-line, start, step, step-text, after, gives, ending, at-end}
+use Rattle.program_session.specs.Pieces.{State, with-line, start, step, step-text, after, gives, last-feed, at-end}
 use Rattle.program_session.specs.Rooms.{most-kept}
 use Rattle.program_session.proofs.States.{Alike, after-append, gives-append, after-alike, gives-alike}
 use Rattle.law_session.specs.Cut.{together, written, CutAnywhere, KeptIsEnough}
@@ -34,7 +34,7 @@ first-alone c (d ∷ k) = ap (with-first c) (first-alone d k)
 
 -- the line at hand and the lines of what is still to come give what a piece gives and then the end
 by-characters : (p k s : List ℕ) → texts p (before-first k (lines s)) ≡ gives (with-line p k) s ++ at-end (after (with-line p k) s)
-unfolding lines texts gives after ending step step-text
+unfolding lines texts gives after last-feed step step-text
 by-characters p [] [] = refl
 by-characters p (c ∷ k) [] = rw (first-alone c k, ne-eqb (suc (length k)) 0 (λ z. omega arith))
 by-characters p k (c ∷ s) = go (eqb c 10) (λ q j. by-characters q j s)
@@ -63,8 +63,8 @@ same-emptiness [] (d ∷ t) e = absurd (let z = ap length e in omega arith)
 same-emptiness (c ∷ s) [] e = absurd (let z = ap length e in omega arith)
 
 written-alike : (a b : State) (pieces : List (List ℕ)) → Alike a b → written a pieces ≡ written b pieces
-unfolding written ending
-written-alike a b [] h = gives-alike a b (ending a) h ∙ ap (λ (t : Bool). gives b (pick t [] (10 ∷ []))) (same-emptiness (a .line) (b .line) (h .lines))
+unfolding written last-feed
+written-alike a b [] h = gives-alike a b (last-feed a) h ∙ ap (λ (t : Bool). gives b (pick t [] (10 ∷ []))) (same-emptiness (a .line) (b .line) (h .lines))
 written-alike a b (s ∷ pieces) h = rw (gives-alike a b s h, written-alike (after a s) (after b s) pieces (after-alike a b s h))
 
 pub kept-is-enough : KeptIsEnough

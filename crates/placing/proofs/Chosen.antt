@@ -47,11 +47,11 @@ none-passes f e (i ∷ l) b h j m = go (f i) refl h m (λ q n. none-passes f e l
     go false z q (inl y) r = ap f y ∙ z
     go false z q (inr y) r = r q y
 
-not-fitting : (z : Bool) (n s : ℕ) → z && leb n s ≡ false → z ≡ true → s < n
+pub not-fitting : (z : Bool) (n s : ℕ) → z && leb n s ≡ false → z ≡ true → s < n
 not-fitting true n s h q = leb-false n s h
 not-fitting false n s h q = absurd (false-true q)
 
-not-fit : (z : Bool) (n s : ℕ) → (z ≡ true → s < n) → z && leb n s ≡ false
+pub not-fit : (z : Bool) (n s : ℕ) → (z ≡ true → s < n) → z && leb n s ≡ false
 not-fit true n s h = lt-leb n s (h refl)
 not-fit false n s h = refl
 

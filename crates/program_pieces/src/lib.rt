@@ -1,6 +1,6 @@
 // Input and output in large pieces, and what is said where a read or a write fails.
 ghost use Prim.Native.Nat.{_<_};
-ghost use Rattle.program_pieces.specs.Input.{Within};
+ghost use Rattle.program_pieces.specs.Read.{Within};
 use libc::STDERR_FILENO;
 use libc::STDIN_FILENO;
 use libc::STDOUT_FILENO;

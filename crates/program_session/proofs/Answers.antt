@@ -14,7 +14,7 @@ use Rattle.program_lines.proofs.Kept.{kept-in-room}
 use Rattle.program_session.specs.Reply.{reply, Replied}
 use Rattle.program_session.specs.Session.{line-text, line-picture}
 use Rattle.program_session.specs.Rooms.{most-kept, longest-answer, Answered, Ended}
-use Rattle.program_session.specs.Pieces.{with-line, step, step-text, after, gives, ending}
+use Rattle.program_session.specs.Pieces.{with-line, step, step-text, after, gives, last-feed}
 use Rattle.program_session.proofs.States.{same-text, same-picture}
 
 -- a reply of at most eight longwords, written where there is room for it, answers its line
@@ -40,11 +40,11 @@ kept-answers line part p q a k n b r e l h =
 
 -- the end of input answers what is kept of a line
 pub nothing-ends : (p b : List ℕ) → Ended (with-line p []) p b 0
-unfolding ending after gives
+unfolding last-feed after gives
 nothing-ends p b = record { leaves = refl; fits = omega arith; puts = refl }
 
 pub line-ends : (p k q b : List ℕ) (r : ℕ) → length k ≢ 0 → r ≤ length b → q ≡ line-picture k p → take r b ≡ line-text k p → Ended (with-line p k) q b r
-unfolding ending after gives step step-text
+unfolding last-feed after gives step step-text
 line-ends p k q b r l m e f =
-    let z : ending (with-line p k) ≡ 10 ∷ [] = rw (ne-eqb (length k) 0 l) in
+    let z : last-feed (with-line p k) ≡ 10 ∷ [] = rw (ne-eqb (length k) 0 l) in
     record { leaves = rw z e; fits = m; puts = rw (z, append-nil) f }

@@ -37,9 +37,9 @@ gives a [] = []
 gives a (c ∷ s) = step-text a c ++ gives (step a c) s
 
 -- the end of input ends a line that has characters, as a line feed does
-unfoldable pub ending : State → List ℕ
-ending a = pick (eqb (length (a .line)) 0) [] (10 ∷ [])
+unfoldable pub last-feed : State → List ℕ
+last-feed a = pick (eqb (length (a .line)) 0) [] (10 ∷ [])
 
 -- what the end of input gives
 abbrev pub at-end : State → List ℕ
-at-end a = gives a (ending a)
+at-end a = gives a (last-feed a)

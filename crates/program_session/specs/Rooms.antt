@@ -6,7 +6,7 @@ use lib.ListN.{length, take}
 use Rattle.program_pieces.specs.declared.Kept.{Kept}
 use Rattle.program_pieces.specs.declared.Kept.the-variants.{Characters, Unwritten}
 use Rattle.program_session.specs.Session.{line-text, line-picture}
-use Rattle.program_session.specs.Pieces.{State, start, after, gives, ending, at-end}
+use Rattle.program_session.specs.Pieces.{State, start, after, gives, last-feed, at-end}
 
 -- how much of a line is kept: one character more than a good line may have
 abbrev pub most-kept : ℕ
@@ -52,7 +52,7 @@ TakenAll a s q d v w Unwritten = (n : ℕ) × (q ≡ after a (take n s) .picture
 
 -- the end of input is answered: q is the picture after it, and what it gives is the first r characters of b
 pub record Ended (a : State) (q b : List ℕ) (r : ℕ) : Type 0 where
-  pub leaves : q ≡ after a (ending a) .picture
+  pub leaves : q ≡ after a (last-feed a) .picture
   pub fits : r ≤ length b
   pub puts : take r b ≡ at-end a
 

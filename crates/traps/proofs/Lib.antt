@@ -1,1 +1,2 @@
--- The proofs of the functions alone.
+-- A law of the tables.
+pub mod Among

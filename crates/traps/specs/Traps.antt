@@ -14,8 +14,8 @@ use Rattle.memory.specs.Memory.{longest-room, take, give-back}
 use Rattle.opening.specs.Calls.{open-channel}
 use Rattle.channels.specs.Calls.{close-channel, pending, fetch, send}
 
--- the call behind a number in a list, or another where the number isn't there
-abbrev pub among : ℕ → List (ℕ × Call) → Call → Call
+-- what stands behind a number in a list, or another where the number isn't there
+abbrev pub among : {A : Type 0} → ℕ → List (ℕ × A) → A → A
 among n [] c = c
 among n (e ∷ l) c = cond (eqb n (e .0)) (e .1) (among n l c)
 

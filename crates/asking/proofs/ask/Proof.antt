@@ -103,8 +103,7 @@ answer-requires : tie.Need-answer-requires
 answer-requires c κs = let k = c .before .before .before .before .before in
     let s = k .before .before .before .before .before .before .before .before .before .before .before .before .before .before .before .before .before in
     let f = found k in
-    let t = k .before .before .before .before .before .before .before .before in
-    (job-found (s .args .p .now) (D2 (s .args .d .now)) (t .before .t .given .0 .0) (top-at t) .within, (f .within, (priority-within (s .args .p .now) (k .before .k .given .0 .0) (s .pre) (f .used), base-within (s .args .p .now) (k .before .k .given .0 .0) (s .pre) (f .used))))
+    (f .within, (priority-within (s .args .p .now) (k .before .k .given .0 .0) (s .pre) (f .used), base-within (s .args .p .now) (k .before .k .given .0 .0) (s .pre) (f .used)))
 
 same-length-7 : tie.Need-same-length-7
 same-length-7 c = search needs
