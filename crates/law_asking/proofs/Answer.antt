@@ -1,27 +1,22 @@
 -- What $2 answers is the member with the next greater tag, and what its record says.
-use Prim.Native.Nat.{ℕ, _+_, _≤_, _<_}
-use mathlib.Core.Path.{_≡_, refl, sym, ap, _∙_}
+use Prim.Native.Nat.{ℕ, _+_, _≤_}
+use mathlib.Core.Path.{_≡_, refl, _∙_}
 use mathlib.Core.Bool.{Bool, true, false, cond}
-use mathlib.Core.Logic.{⊎-elim, _⊎_, inl, inr}
-use mathlib.Core.List.{List, [], _∷_}
+use mathlib.Core.Logic.{⊎-elim, inl, inr}
+use mathlib.Core.List.{List}
 use native.Mathlib.Omega.{arith}
 use lib.IntN.{pos}
 use lib.ListN.{length, length-set}
 use lib.Seq.{getD-set-same, getD-set-other}
-use lib.Dec.{eqb}
 use borrow.Author.Tests.{eq-eqb, ne-eqb}
 use Rattle.words.specs.Words.{word, put}
-use Rattle.words.specs.Bits.{bit}
 use Rattle.words.specs.Signed.{eqZ}
-use Rattle.words.proofs.Signed.{eqZ-true, eqZ-false}
-use Rattle.words.proofs.Tests.{false-true}
+use Rattle.words.proofs.Signed.{eqZ-true}
 use Rattle.picture.specs.Keys.{done}
-use Rattle.picture.specs.Layout.{positions}
-use Rattle.picture.specs.Records.{number, owner, base, priority, timeout, used}
+use Rattle.picture.specs.Records.{number, owner, base, priority, timeout}
 use Rattle.picture.specs.Numbers.{tag, position, live}
 use Rattle.picture.specs.declared.Table.the-variants.{Jobs}
 use Rattle.picture.proofs.Records.{used-below}
-use Rattle.picture.proofs.Numbers.{live-is}
 use Rattle.sound.specs.Sound.{sound}
 use Rattle.calls.specs.Outcome.{Outcome, succeed}
 use Rattle.calls.specs.Call.{outcome}
@@ -36,7 +31,7 @@ use Rattle.law_owners.proofs.Owners.{owners-in-order}
 use Rattle.asking.specs.Next.{next-member}
 use Rattle.asking.specs.Ask.{standing, room, answered, ask, top-position}
 use Rattle.law_asking.specs.Answer.{NextMember, Answers}
-use Rattle.law_asking.proofs.Next.{Next, the-next-member-has-the-next-greater-tag}
+use Rattle.law_asking.proofs.Next.{the-next-member-has-the-next-greater-tag}
 
 module _ (p : List ℕ) (s : sound p ≡ true) (t : ℕ) where
   -- the computed next member, in the words of the tree

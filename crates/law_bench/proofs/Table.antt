@@ -1,7 +1,5 @@
 -- The desk bench's table, computed.
-use Prim.Native.Nat.{ℕ}
-use mathlib.Core.Path.{_≡_, refl}
-use mathlib.Core.List.{List, [], _∷_}
+use mathlib.Core.Path.{refl}
 use Rattle.words.specs.Words.{clear}
 use Rattle.picture.specs.Records.{with-members}
 use Rattle.picture.specs.Numbers.{job-at, free-position}
@@ -10,7 +8,7 @@ use Rattle.headers.specs.Header.{header}
 use Rattle.placing.specs.Place.{fits, chosen, split, placed, answer, longer, longest}
 use Rattle.masks.specs.Masks.{with-bit, lowest-clear}
 use Rattle.calls.specs.Call.{outcome}
-use Rattle.calls.specs.Registers.{D1, A0, meant}
+use Rattle.calls.specs.Registers.{meant}
 use Rattle.memory.specs.Memory.{longest-room, length-good, room-registers, taken, take}
 use Rattle.entering.specs.Entry.{has-position, has-tag, recorded, counted, entered}
 use Rattle.creating.specs.Create.{owner-found, created, job-registers, create}

@@ -1,19 +1,17 @@
 -- The checks of each call give its reasons, on a sound picture.
-use Prim.Native.Nat.{ℕ, _+_, _%_, _<_, _≤_}
-use mathlib.Core.Path.{_≡_, refl, sym, ap, _∙_, subst}
-use mathlib.Core.Bool.{Bool, true, false, not, cond, _&&_}
+use Prim.Native.Nat.{ℕ}
+use mathlib.Core.Path.{_≡_, refl, sym, ap, _∙_}
+use mathlib.Core.Bool.{Bool, true, false, not, cond}
 use mathlib.Core.List.{List, [], _∷_, _++_}
 use native.Mathlib.Omega.{arith}
-use lib.IntN.{ℤ}
 use lib.ListN.{length, drop}
-use lib.Dec.{eqb, leb}
-use borrow.Author.Tests.{eqb-true, eqb-false, eq-eqb, leb-true, leb-false, le-leb, not-true, not-false}
+use lib.Dec.{eqb}
+use borrow.Author.Tests.{eqb-true, eqb-false, leb-true, le-leb, not-true, not-false}
 use Rattle.words.specs.Words.{low-word}
-use Rattle.words.specs.Each.{In, all}
 use Rattle.words.proofs.Tests.{false-true, both}
 use Rattle.words.proofs.Each.{all-at, all-by}
-use Rattle.picture.specs.Keys.{done, not-complete, invalid-job, out-of-memory, channel-not-open, not-found, bad-name, bad-parameter}
-use Rattle.picture.specs.Records.{number, used, active}
+use Rattle.picture.specs.Keys.{not-complete, invalid-job, channel-not-open, not-found, bad-name, bad-parameter}
+use Rattle.picture.specs.Records.{number, used}
 use Rattle.picture.specs.Numbers.{position, live, job-at, channel-at}
 use Rattle.picture.specs.declared.Table.the-variants.{Jobs, Channels}
 use Rattle.picture.specs.declared.Area.the-variants.{Heap, Transient}
@@ -22,34 +20,27 @@ use Rattle.sound_areas.specs.Rules.{longest-queue}
 use Rattle.sound.specs.Sound.{sound}
 use Rattle.sound_facts.proofs.View.{view}
 use Rattle.calls.specs.Call.{Check, verdict}
-use Rattle.calls.specs.Found.{job-check, channel-check, job-position, place-of-channel}
+use Rattle.calls.specs.Found.{job-check, channel-check, job-position}
 use Rattle.calls.specs.Registers.{D1, D2, D3, A0, A1, meant}
 use Rattle.calls.proofs.Found.{job-stands, channel-stands, job-that-passes-is-live, channel-that-passes-is-live}
-use Rattle.effects.specs.Effects.{low-byte, suspends, may-wait, activity-good, priority-good}
-use Rattle.timeouts.specs.Timeout.{timeout-in}
-use Rattle.entering.specs.Entry.{has-position, has-tag}
-use Rattle.rooms.specs.Room.{room-at, room-check}
+use Rattle.effects.specs.Effects.{low-byte}
 use Rattle.tree.specs.Tree.{tree, in-tree}
-use Rattle.law_owners.specs.Under.{Under}
 use Rattle.law_owners.proofs.Members.{in-tree-says, in-tree-has}
 use Rattle.law_owners.proofs.Owners.{owners-in-order}
-use Rattle.names.specs.Names.{key-of, good, name-check, byte, pipe, digit, worth, numbered, named, number-in}
+use Rattle.names.specs.Names.{key-of, good, name-check, byte, pipe, digit, worth, numbered, named}
 use Rattle.names.specs.Names.{number as pipe-number}
 use Rattle.names.specs.declared.Name.the-variants.{Pipe, Foreign, Unnumbered, Bare}
 use Rattle.names.proofs.Digits.{digit-is}
-use Rattle.jobs.specs.Calls.{job, suspend, release, activate, set-priority}
-use Rattle.asking.specs.Ask.{ask, top-position}
-use Rattle.creating.specs.Create.{create, owner-found, owner-check, job-length}
+use Rattle.jobs.specs.Calls.{suspend, release, activate, set-priority}
+use Rattle.asking.specs.Ask.{ask}
+use Rattle.creating.specs.Create.{create}
 use Rattle.ending.specs.Remove.{inactive, removal, remove, force-remove}
-use Rattle.memory.specs.Memory.{take, give-back, taken-length, length-good, is-plain-room}
+use Rattle.memory.specs.Memory.{take, give-back}
 use Rattle.opening.specs.Calls.{open-channel}
-use Rattle.opening.specs.Effects.{queue-bytes}
-use Rattle.queues.specs.Ring.{waits, full}
-use Rattle.channels.specs.Effects.{queue-of, immediate}
+use Rattle.channels.specs.Effects.{queue-of}
 use Rattle.channels.specs.Calls.{queue-named, at-channel, close-channel, pending, fetch, send}
-use Rattle.law_ending.specs.Promise.{ActiveMember}
 use Rattle.law_ending.proofs.Refusal.{active-member, not-inactive}
-use Rattle.law_causes.specs.Faults.{PipeNumber, Fault, Wrong, not-live, outside-the-tree, job-zero, tree-active, job-active, not-pipe, bare-pipe, other-character, number-outside, timeout-not-zero, queue-empty, queue-full}
+use Rattle.law_causes.specs.Faults.{PipeNumber, Fault, Wrong, outside-the-tree, job-zero, tree-active, not-pipe, bare-pipe, other-character, number-outside, timeout-not-zero}
 use Rattle.law_causes.specs.Reasons.{Reason, named-job, create-bytes, create-reasons, ask-reasons, force-remove-reasons, remove-reasons, suspend-reasons, release-reasons, activate-reasons, set-priority-reasons, take-bytes, take-reasons, give-back-reasons, open-bytes, open-reasons, close-reasons, fetch-reasons, send-reasons}
 use Rattle.law_causes.proofs.Matching.{Tells, Gives, gives-none, gives-more, gives-same}
 use Rattle.law_causes.proofs.Tests.{tells-by, tells-job, tells-channel, tells-owner, tells-tag, tells-empty, tells-full, tells-four, tells-position, tells-room, tells-active, tells-activity, tells-priority, tells-length, tells-plain, tells-immediate, tells-suspension, tells-activation}

@@ -1,9 +1,8 @@
 -- Each key is given exactly for its cause: the checks of the door and of the call named give the reasons of the rules, one by one.
 use Prim.Native.Nat.{ℕ}
-use mathlib.Core.Path.{_≡_, refl, sym, ap, _∙_, subst}
+use mathlib.Core.Path.{_≡_, refl, sym, _∙_, subst}
 use mathlib.Core.Bool.{Bool, true, false, not, cond}
 use mathlib.Core.List.{List, [], _∷_}
-use lib.IntN.{ℤ}
 use lib.ListN.{length}
 use lib.Dec.{eqb}
 use borrow.Author.Tests.{eqb-true, eqb-false, not-true, not-false}
@@ -23,7 +22,7 @@ use Rattle.manager.specs.Door.{checked, with-key, called}
 use Rattle.law_causes.specs.Faults.{Fault, Wrong, registers-not-eight, picture-not-sound, nobody-current, unknown-call}
 use Rattle.law_causes.specs.Reasons.{Reason, reasons-one, reasons-two, reasons-three, unknown-reasons, trap-reasons, call-reasons, reasons}
 use Rattle.law_causes.specs.Causes.{KeyOnlyForItsCause}
-use Rattle.law_causes.proofs.Matching.{Gives, gives-none, gives-more, gives-same}
+use Rattle.law_causes.proofs.Matching.{Gives, gives-none, gives-more}
 use Rattle.law_causes.proofs.Tests.{tells-by}
 use Rattle.law_causes.proofs.Calls.{ask-gives, remove-gives, force-remove-gives, suspend-gives, release-gives, activate-gives, set-priority-gives, create-gives, take-gives, give-back-gives, open-gives, close-gives, pending-gives, fetch-gives, send-gives}
 

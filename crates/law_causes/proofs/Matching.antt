@@ -1,5 +1,4 @@
 -- A list of checks gives a list of reasons where each check tells its fault: the verdict of the one is the key of the other.
-use Prim.Native.Nat.{ℕ}
 use mathlib.Core.Path.{_≡_, refl, sym, _∙_}
 use mathlib.Core.Bool.{Bool, true, false, cond}
 use mathlib.Core.List.{List, [], _∷_, _++_}

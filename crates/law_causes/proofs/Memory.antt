@@ -1,15 +1,12 @@
 -- -3 exactly: of the reasons of the door and of all calls, only that for room in $1, $18 and the opening of a channel has that key.
 use Prim.Native.Nat.{ℕ}
-use mathlib.Core.Path.{_≡_, refl, sym, ap, _∙_, subst}
-use mathlib.Core.Bool.{Bool, true, false, cond}
+use mathlib.Core.Path.{_≡_, refl, sym, _∙_, subst}
+use mathlib.Core.Bool.{Bool, true, false}
 use mathlib.Core.List.{List, [], _∷_, _++_}
-use mathlib.Core.Logic.{⊎-elim, _⊎_, inl, inr, by-cases}
+use mathlib.Core.Logic.{⊎-elim, inl, by-cases}
 use native.Mathlib.Omega.{arith}
 use native.Mathlib.Decide.{ℕ-discrete}
-use lib.IntN.{ℤ}
 use lib.ListN.{length}
-use lib.Dec.{eqb}
-use borrow.Author.Tests.{eqb-true, eq-eqb}
 use Rattle.words.specs.Words.{word}
 use Rattle.words.proofs.Tests.{false-true}
 use Rattle.picture.specs.Keys.{done, not-complete, invalid-job, out-of-memory, channel-not-open, not-found, bad-name, bad-parameter, not-sound}

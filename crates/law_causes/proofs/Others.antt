@@ -1,29 +1,27 @@
 -- The keys of a fresh picture, of an error's text, of the pick and of the tick: each exactly for its cause.
-use Prim.Native.Nat.{ℕ, zero, suc, _+_, _%_, _≤_, _<_}
-use mathlib.Core.Path.{_≡_, refl, sym, ap, _∙_, subst}
+use Prim.Native.Nat.{ℕ, zero, suc, _+_, _%_}
+use mathlib.Core.Path.{_≡_, refl, sym, ap, _∙_}
 use mathlib.Core.Bool.{Bool, true, false, cond, _&&_}
 use mathlib.Core.List.{List}
-use mathlib.Core.Logic.{⊎-elim, _⊎_, inl, inr}
+use mathlib.Core.Logic.{⊎-elim}
 use native.Mathlib.Omega.{arith}
 use lib.IntN.{ℤ, pos, negsuc}
 use lib.ListN.{length}
-use lib.Dec.{eqb, leb, ltb}
-use borrow.Author.Tests.{eqb-true, eq-eqb, leb-true, le-leb, leb-false, lt-leb, ltb-true, ltb-false, lt-ltb, le-ltb}
+use lib.Dec.{eqb, ltb}
+use borrow.Author.Tests.{eqb-true, eq-eqb, leb-true, le-leb, ltb-true, lt-ltb}
 use Rattle.words.proofs.Tests.{both, false-true}
 use Rattle.picture.specs.Keys.{done, out-of-range, not-found, not-sound}
 use Rattle.picture.specs.Layout.{nobody, least-size, greatest-size, heap-base, positions}
-use Rattle.picture.specs.Records.{number, used, delivered}
 use Rattle.picture.specs.Numbers.{position}
 use Rattle.picture.specs.declared.Table.the-variants.{Jobs}
 use Rattle.sound.specs.Sound.{sound}
 use Rattle.sound_facts.proofs.View.{view}
 use Rattle.calls.proofs.Call.{keys-differ}
 use Rattle.fresh.specs.Fresh.{fresh-good, fresh-key}
-use Rattle.errors.specs.Text.{length-word, whole-at, string-at, past, nth-at, in-system, in-driver, spot-of, spot-key, error-key}
-use Rattle.errors.specs.declared.Place.{Place}
+use Rattle.errors.specs.Text.{length-word, whole-at, string-at, past, nth-at, in-system, in-driver, spot-key, error-key}
 use Rattle.errors.specs.declared.Place.the-variants.{At, Cut}
 use Rattle.errors.specs.declared.Spot.the-variants.{Nowhere}
-use Rattle.turns.specs.Pick.{chosen-job, picked-number, picked-key, answer}
+use Rattle.turns.specs.Pick.{chosen-job, picked-number, picked-key}
 use Rattle.law_picks.specs.Stretch.{Chosen}
 use Rattle.law_picks.proofs.Rule.{NobodyReady, chosen-is-who-the-rule-picks}
 use Rattle.law_picks.proofs.Given.{pick-answers-the-number, pick-answers-nobody}

@@ -1,24 +1,23 @@
 -- Each test of a check tells the fault that stands for it in the words of the rules; of a sound picture, where the words need one.
-use Prim.Native.Nat.{ℕ, zero, suc, _+_, _-_, _*_, _%_, _^_, _≤_, _<_}
+use Prim.Native.Nat.{ℕ, zero, suc, _+_, _-_, _^_, _≤_, _<_}
 use mathlib.Core.Path.{_≡_, refl, sym, ap, _∙_, subst}
-use mathlib.Core.Bool.{Bool, true, false, not, cond, _&&_, true≢false, false≢true}
-use mathlib.Core.List.{List, [], _∷_, _++_}
+use mathlib.Core.Bool.{Bool, true, false, not, cond, _&&_}
+use mathlib.Core.List.{List, [], _∷_}
 use mathlib.Core.Logic.{⊎-elim, _⊎_, inl, inr}
 use native.Mathlib.Omega.{arith}
 use lib.IntN.{ℤ, pos, negsuc}
 use lib.ListN.{length, length-append}
 use lib.Dec.{eqb, leb, ltb}
-use borrow.Author.Tests.{lt-ltb, le-ltb, le-leb, lt-leb, eq-eqb, ne-eqb, eqb-true, eqb-false, leb-true, leb-false, ltb-true, ltb-false, not-true, not-false}
+use borrow.Author.Tests.{le-leb, eq-eqb, eqb-true, eqb-false, leb-true, leb-false, ltb-true, ltb-false, not-true, not-false}
 use mir.Syntax.{w16}
 use mir.Val.{toZ}
 use mir.ValLaws.{toZ-pos, toZ-neg}
 use Rattle.words.specs.Words.{word, low-word}
-use Rattle.words.specs.Each.{In, all, any}
-use Rattle.words.specs.Signed.{eqZ}
+use Rattle.words.specs.Each.{any}
 use Rattle.words.proofs.Tests.{lt-or-ge, false-true, both}
-use Rattle.words.proofs.Each.{all-at, all-by, any-some, some-any}
-use Rattle.picture.specs.Keys.{done, not-complete, invalid-job, out-of-memory, channel-not-open, bad-parameter}
-use Rattle.picture.specs.Layout.{nobody, positions, last-word, greatest-tag, greatest-priority, greatest-timeout, without-end}
+use Rattle.words.proofs.Each.{any-some, some-any}
+use Rattle.picture.specs.Keys.{not-complete, invalid-job, out-of-memory, channel-not-open, bad-parameter}
+use Rattle.picture.specs.Layout.{nobody, positions, last-word, greatest-tag, greatest-priority, greatest-timeout}
 use Rattle.picture.specs.Records.{number, priority, used, active, members}
 use Rattle.picture.specs.Numbers.{position, live, job-at, channel-at, free-position}
 use Rattle.picture.specs.declared.Table.{Table}
@@ -27,18 +26,18 @@ use Rattle.picture.specs.declared.Area.{Area}
 use Rattle.picture.specs.declared.Area.the-variants.{Heap}
 use Rattle.picture.specs.declared.JobFound.the-variants as job
 use Rattle.picture.specs.declared.ChannelFound.the-variants as channel
-use Rattle.picture.proofs.Numbers.{Live, live-is, is-live}
-use Rattle.picture.proofs.Records.{used-below, used-is}
+use Rattle.picture.proofs.Numbers.{live-is, is-live}
+use Rattle.picture.proofs.Records.{used-is}
 use Rattle.masks.specs.Masks.{lowest-clear}
-use Rattle.masks.proofs.Lowest.{Lowest, lowest-clear-is}
-use Rattle.blocks.specs.Header.{size, kind, free, plain-kind, queue-length, queue-count}
+use Rattle.masks.proofs.Lowest.{lowest-clear-is}
+use Rattle.blocks.specs.Header.{kind, free, plain-kind, queue-length, queue-count}
 use Rattle.blocks.specs.Walk.{blocks}
 use Rattle.sound.specs.Sound.{sound}
-use Rattle.sound_facts.proofs.Sound.{Sound, Entries, Sizes}
+use Rattle.sound_facts.proofs.Sound.{Sound, Entries}
 use Rattle.sound_facts.proofs.View.{view}
 use Rattle.calls.specs.Call.{Check}
 use Rattle.calls.specs.Found.{job-check, channel-check}
-use Rattle.timeouts.specs.Timeout.{timeout-of, timeout-in, low-half}
+use Rattle.timeouts.specs.Timeout.{timeout-of}
 use Rattle.timeouts.specs.declared.Timeout.{Timeout}
 use Rattle.timeouts.specs.declared.Timeout.the-variants.{Zero, Frames, Endless, Bad}
 use Rattle.effects.specs.Effects.{suspends, may-wait, activity-good, priority-good}
@@ -52,9 +51,8 @@ use Rattle.queues.specs.Ring.{waits, full, contents, listed, index}
 use Rattle.queues.specs.Bytes.{byte-at}
 use Rattle.queues.proofs.Ring.{waits-tells}
 use Rattle.channels.specs.Effects.{queue-of, immediate}
-use Rattle.channels.proofs.Found.{Held, live-queue}
+use Rattle.channels.proofs.Found.{live-queue}
 use Rattle.calls.specs.Registers.{D3, caller}
-use Rattle.law_queues.specs.Lists.{bytes-at}
 use Rattle.law_causes.specs.Faults.{Names, Suspending, Activating, Fault, Wrong, not-live, owner-not-live, below-four, positions-used-up, tags-used-up, no-block-long-enough, job-active, priority-outside, suspension-outside, activation-outside, length-outside, no-plain-block, timeout-not-zero, queue-empty, queue-full}
 use Rattle.law_causes.proofs.Matching.{Tells}
 

@@ -13,7 +13,7 @@ use Rattle.blocks.specs.Walk.{starts}
 use Rattle.blocks.proofs.Starts.{Rising, rising-in, starts-rising, starts-in}
 use Rattle.placing.specs.Place.{fits, first, chosen, answer}
 use Rattle.placing.specs.declared.Placement.the-variants.{At}
-use Rattle.placing.proofs.Chosen.{Chosen, not-fitting, not-fit}
+use Rattle.placing.proofs.Chosen.{not-fitting, not-fit}
 use Rattle.placing.proofs.Answer.{answer-at, placed-at-a-chosen-block}
 use Rattle.law_placing.specs.Rule.{LowestEnough, PlacedAtTheLowest}
 

@@ -7,7 +7,7 @@ use Rattle.words.specs.Each.{In}
 use Rattle.blocks.specs.Header.{size, free}
 use Rattle.blocks.specs.Walk.{starts}
 use Rattle.placing.specs.Place.{answer}
-use Rattle.placing.specs.declared.Placement.the-variants.{At, Nowhere}
+use Rattle.placing.specs.declared.Placement.the-variants.{At}
 
 -- the block at i is free and long enough for n bytes, and no lower free block would have been enough
 pub record LowestEnough (p : List ℕ) (base e n i : ℕ) : Type 0 where

@@ -1,10 +1,7 @@
 -- What holds of what every call comes to, and of the refusal of an unknown call, holds of the call that a trap number and D0 name.
 use Prim.Native.Nat.{ℕ}
-use mathlib.Core.Path.{_≡_, refl}
-use mathlib.Core.Bool.{Bool, true, false, cond}
-use mathlib.Core.List.{List, [], _∷_}
-use lib.Dec.{eqb}
-use borrow.Author.Tests.{eqb-true}
+use mathlib.Core.Path.{_≡_}
+use mathlib.Core.List.{List}
 use Rattle.words.specs.Words.{word}
 use Rattle.picture.specs.Keys.{bad-parameter}
 use Rattle.calls.specs.Outcome.{Outcome, refuse}

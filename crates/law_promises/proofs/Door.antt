@@ -1,11 +1,11 @@
 -- Demands 1 and 2, of one call.
 use Prim.Native.Nat.{ℕ}
-use mathlib.Core.Path.{_≡_, refl, sym, ap, _∙_}
+use mathlib.Core.Path.{_≡_, refl, ap, _∙_}
 use mathlib.Core.Bool.{Bool, true, false, not, cond}
 use mathlib.Core.List.{List}
 use lib.ListN.{length}
 use lib.Dec.{eqb}
-use borrow.Author.Tests.{eqb-true, eqb-false, eq-eqb, ne-eqb}
+use borrow.Author.Tests.{eqb-false}
 use Rattle.picture.specs.Layout.{nobody}
 use Rattle.picture.specs.Keys.{invalid-job, bad-parameter, not-sound}
 use Rattle.sound.specs.Sound.{sound}
@@ -16,13 +16,11 @@ use Rattle.calls.proofs.Call.{refusal-changes-nothing}
 use Rattle.traps.specs.Traps.{call-named}
 use Rattle.manager.specs.Door.{checked, with-key, called}
 use Rattle.manager.specs.Turn.{pick-picture, ticking}
-use Rattle.turns.specs.Pick.{picked}
-use Rattle.turns.specs.Tick.{ticked}
 use Rattle.law_turns.proofs.Pick.{pick-keeps-sound}
 use Rattle.law_turns.proofs.Tick.{tick-keeps-sound}
 use Rattle.manager.proofs.Door.{checked-unsound, called-otherwise, called-with-eight}
-use Rattle.law_promises.specs.Door.{OnlyKeyWritten, RefusalWritesOnlyD0, OtherRegistersRefused, Unsound, UnsoundIsRefused, CallKeepsSound, PickKeepsSound, TickKeepsSound}
-use Rattle.law_promises.proofs.Calls.{EachCall, each-call}
+use Rattle.law_promises.specs.Door.{RefusalWritesOnlyD0, OtherRegistersRefused, UnsoundIsRefused, CallKeepsSound, PickKeepsSound, TickKeepsSound}
+use Rattle.law_promises.proofs.Calls.{each-call}
 use Rattle.law_asking.proofs.Kept.{ask-keeps-sound}
 use Rattle.law_creating.proofs.Kept.{create-keeps-sound}
 use Rattle.law_ending.proofs.Calls.{remove-keeps-sound, force-remove-keeps-sound}

@@ -1,6 +1,6 @@
 -- Whatever satisfies a contract is equal: both are what the definition says.
 use Prim.Native.Nat.{ℕ}
-use mathlib.Core.Path.{_≡_, refl, sym, _∙_}
+use mathlib.Core.Path.{_≡_, sym, _∙_}
 use mathlib.Core.List.{List}
 use denote.Ref.{RefT, ptr, now}
 use Rattle.errors.specs.Text.{Lies, Answer, spot-of}

@@ -1,6 +1,6 @@
 -- Every trap call is quiet for a job that stands before and after it, and that no priority call names.
 use Prim.Native.Nat.{ℕ, _<_}
-use mathlib.Core.Path.{_≡_, refl, sym, _∙_}
+use mathlib.Core.Path.{_≡_}
 use mathlib.Core.Bool.{Bool, true, false, cond}
 use mathlib.Core.List.{List}
 use lib.ListN.{length}
@@ -14,9 +14,9 @@ use Rattle.calls.specs.Call.{outcome}
 use Rattle.manager.specs.Door.{checked, with-key, called}
 use Rattle.law_picks.specs.Stretch.{Stands, Quiet}
 use Rattle.law_picks.proofs.Quiet.{nothing-is-quiet}
-use Rattle.law_promises.specs.History.{Event, trap, after}
+use Rattle.law_promises.specs.History.{trap, after}
 use Rattle.law_promises.specs.Turn.{Unnamed}
-use Rattle.law_promises.proofs.Calls.{EachCall, each-call}
+use Rattle.law_promises.proofs.Calls.{each-call}
 use Rattle.law_promises.proofs.Door.{checked-by}
 use Rattle.law_promises.proofs.CallsQuiet.{information-is-quiet, ask-is-quiet, longest-room-is-quiet, pending-is-quiet, take-is-quiet, give-back-is-quiet, fetch-is-quiet, send-is-quiet, release-is-quiet, suspend-is-quiet, set-priority-is-quiet, activate-is-quiet}
 use Rattle.law_promises.proofs.TablesQuiet.{close-channel-is-quiet, open-channel-is-quiet, create-is-quiet, remove-is-quiet, force-remove-is-quiet}

@@ -1,5 +1,5 @@
 -- Demand 3 over histories.
-use Prim.Native.Nat.{ℕ, _<_, _≤_}
+use Prim.Native.Nat.{ℕ, _<_}
 use mathlib.Core.Path.{_≡_, sym, subst}
 use mathlib.Core.Bool.{true}
 use mathlib.Core.List.{List, [], _∷_}
@@ -15,7 +15,7 @@ use Rattle.law_picks.proofs.Fairness.{no-turn-is-lost}
 use Rattle.law_picks.proofs.Quiet.{tick-is-quiet}
 use Rattle.law_turns.proofs.Pick.{sound-is-orderly}
 use Rattle.law_promises.specs.History.{Event, trap, pick, tick, after}
-use Rattle.law_promises.specs.Turn.{Unnamed, Stays, answers, TurnNotLost}
+use Rattle.law_promises.specs.Turn.{Stays, answers, TurnNotLost}
 use Rattle.law_promises.proofs.History.{event-keeps-sound}
 use Rattle.law_promises.proofs.Quiet.{call-is-quiet}
 

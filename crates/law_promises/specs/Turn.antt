@@ -1,7 +1,7 @@
 -- Demand 3: "Take document 01's pick rule and any stretch of picks from a sound picture, with only trap calls and ticks between them. A job
 -- that stays ready all through, at one priority p from 1 to 127, with no priority call naming it, is picked at least once in every
 -- 2 + floor(3810 / p) picks in a row, whatever the other jobs create, end, suspend or raise meanwhile."
-use Prim.Native.Nat.{ℕ, _+_, _<_, _≤_}
+use Prim.Native.Nat.{ℕ, _<_, _≤_}
 use mathlib.Core.Path.{_≡_}
 use mathlib.Core.Bool.{true}
 use mathlib.Core.List.{List, [], _∷_}
