@@ -10,6 +10,40 @@ use crate::{blocks, channels, jobs};
 pub use crate::errors::error_text;
 pub use crate::fresh::fresh;
 
+/// A manager that a session or a trial can be run on: the functions of this module, or another version's.
+pub trait Manager {
+    fn fresh(length: u32, heap_length: u32, picture: &mut [u32]) -> Key;
+    fn call(trap: u32, registers: &mut [u32], name: &[u8], picture: &mut [u32]) -> Key;
+    fn pick(picture: &mut [u32]) -> Picked;
+    fn tick(picture: &mut [u32]) -> Key;
+    fn error_text<'a>(key: Key, system: &'a [u8], driver: &'a [u8]) -> (Key, &'a [u8]);
+}
+
+/// The manager of this crate.
+pub struct Ordinary;
+
+impl Manager for Ordinary {
+    fn fresh(length: u32, heap_length: u32, picture: &mut [u32]) -> Key {
+        fresh(length, heap_length, picture)
+    }
+
+    fn call(trap: u32, registers: &mut [u32], name: &[u8], picture: &mut [u32]) -> Key {
+        call(trap, registers, name, picture)
+    }
+
+    fn pick(picture: &mut [u32]) -> Picked {
+        pick(picture)
+    }
+
+    fn tick(picture: &mut [u32]) -> Key {
+        tick(picture)
+    }
+
+    fn error_text<'a>(key: Key, system: &'a [u8], driver: &'a [u8]) -> (Key, &'a [u8]) {
+        error_text(key, system, driver)
+    }
+}
+
 /// Answers a trap: the key, which also stands in D0. A refusal writes D0 only.
 ///
 /// Registers that aren't 8 are answered -15 and nothing is written.

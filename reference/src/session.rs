@@ -5,7 +5,7 @@ use std::io::{self, Read, Write};
 use crate::hexadecimal::{self, write_longword};
 use crate::keys::BAD_PARAMETER;
 use crate::lines::answer_lines;
-use crate::manager;
+use crate::manager::Manager;
 use crate::registers::Registers;
 
 /// The picture of a session starts fresh with this N and H.
@@ -63,47 +63,47 @@ fn read<'a>(line: &[u8], name: &'a mut [u8; LONGEST_NAME]) -> Option<Frame<'a>> 
 }
 
 /// Answers one line on the picture, with its line feed; none is a line over the limit.
-pub fn answer_line(line: Option<&[u8]>, picture: &mut [u32], out: &mut Vec<u8>) {
+pub fn answer_line<M: Manager>(line: Option<&[u8]>, picture: &mut [u32], out: &mut Vec<u8>) {
     let mut name = [0; LONGEST_NAME];
     match line.map_or(Frame::Bad, |line| read_line(line, &mut name)) {
         Frame::Trap { trap, mut registers, name } => {
-            manager::call(u32::from(trap), &mut registers, name, picture);
+            M::call(u32::from(trap), &mut registers, name, picture);
             for register in registers {
                 write_longword(register, out);
             }
         }
         Frame::Pick => {
-            let picked = manager::pick(picture);
+            let picked = M::pick(picture);
             write_longword(picked.number, out);
             write_longword(picked.key as u32, out);
         }
-        Frame::Tick => write_longword(manager::tick(picture) as u32, out),
+        Frame::Tick => write_longword(M::tick(picture) as u32, out),
         Frame::Bad => write_longword(BAD_PARAMETER as u32, out),
     }
     out.push(b'\n');
 }
 
 /// The fresh picture that a session starts with.
-pub fn fresh_picture() -> [u32; LENGTH] {
+pub fn fresh_picture<M: Manager>() -> [u32; LENGTH] {
     let mut picture = [0; LENGTH];
-    manager::fresh(LENGTH as u32, HEAP_LENGTH as u32, &mut picture);
+    M::fresh(LENGTH as u32, HEAP_LENGTH as u32, &mut picture);
     picture
 }
 
-/// Runs a session from its first line to the end of input.
-pub fn run(input: &mut impl Read, output: &mut impl Write) -> io::Result<()> {
-    let mut picture = fresh_picture();
-    answer_lines(input, output, LONGEST_LINE, |line, out| answer_line(line, &mut picture, out))
+/// Runs a session on a manager, from its first line to the end of input.
+pub fn run<M: Manager>(input: &mut impl Read, output: &mut impl Write) -> io::Result<()> {
+    let mut picture = fresh_picture::<M>();
+    answer_lines(input, output, LONGEST_LINE, |line, out| answer_line::<M>(line, &mut picture, out))
 }
 
 #[cfg(test)]
 mod tests {
     use super::*;
-    use crate::manager::fresh;
+    use crate::manager::{fresh, Ordinary};
 
     fn answers(input: &[u8]) -> String {
         let mut output = Vec::new();
-        run(&mut &input[..], &mut output).unwrap();
+        run::<Ordinary>(&mut &input[..], &mut output).unwrap();
         String::from_utf8(output).unwrap()
     }
 
@@ -214,12 +214,12 @@ mod tests {
 
     #[test]
     fn bad_lines_change_nothing_whoever_is_current() {
-        let mut picture = fresh_picture();
+        let mut picture = fresh_picture::<Ordinary>();
         picture[crate::picture::CURRENT] = crate::picture::NOBODY;
         let before = picture;
         let mut out = Vec::new();
         for bad in [None, Some(&b""[..]), Some(b"01"), Some(b"F0 ")] {
-            answer_line(bad, &mut picture, &mut out);
+            answer_line::<Ordinary>(bad, &mut picture, &mut out);
         }
         assert_eq!(out, BAD.repeat(4).as_bytes());
         assert_eq!(picture, before);
@@ -279,6 +279,6 @@ mod tests {
     fn the_picture_starts_fresh() {
         let mut picture = [1; LENGTH];
         assert_eq!(fresh(1_024, 256, &mut picture), 0);
-        assert_eq!(fresh_picture(), picture);
+        assert_eq!(fresh_picture::<Ordinary>(), picture);
     }
 }

@@ -5,7 +5,7 @@ use std::io::{self, Read, Write};
 use crate::hexadecimal::{self, write_byte, write_longword, write_word};
 use crate::keys::Key;
 use crate::lines::answer_lines;
-use crate::manager;
+use crate::manager::Manager;
 use crate::picture::GREATEST_LENGTH;
 
 /// The most characters of a trial's line.
@@ -49,11 +49,11 @@ pub struct Bench {
 
 impl Bench {
     /// Answers one line with its line feed; none is a line over the limit. A line that isn't a trial gives `?`.
-    pub fn answer_line(&mut self, line: Option<&[u8]>, out: &mut Vec<u8>) {
+    pub fn answer_line<M: Manager>(&mut self, line: Option<&[u8]>, out: &mut Vec<u8>) {
         match line.and_then(|line| self.read(line)) {
             None => out.push(b'?'),
-            Some(Trial::ErrorText(key)) => self.answer_error_text(key, out),
-            Some(Trial::Call(asked)) => self.answer_call(asked, out),
+            Some(Trial::ErrorText(key)) => self.answer_error_text::<M>(key, out),
+            Some(Trial::Call(asked)) => self.answer_call::<M>(asked, out),
         }
         out.push(b'\n');
     }
@@ -98,8 +98,8 @@ impl Bench {
         Some(Trial::Call(asked))
     }
 
-    fn answer_error_text(&self, key: Key, out: &mut Vec<u8>) {
-        let (key, part) = manager::error_text(key, &self.system, &self.driver);
+    fn answer_error_text<M: Manager>(&self, key: Key, out: &mut Vec<u8>) {
+        let (key, part) = M::error_text(key, &self.system, &self.driver);
         write_longword(key as u32, out);
         out.push(b' ');
         if part.is_empty() {
@@ -110,17 +110,17 @@ impl Bench {
         }
     }
 
-    fn answer_call(&mut self, asked: Asked, out: &mut Vec<u8>) {
+    fn answer_call<M: Manager>(&mut self, asked: Asked, out: &mut Vec<u8>) {
         self.picture.clone_from(&self.lent);
         let (registers, picture) = (&mut self.registers, &mut self.picture);
         let (key, number) = match asked {
-            Asked::Trap(trap) => (manager::call(u32::from(trap), registers, &self.name, picture), None),
+            Asked::Trap(trap) => (M::call(u32::from(trap), registers, &self.name, picture), None),
             Asked::Pick => {
-                let picked = manager::pick(picture);
+                let picked = M::pick(picture);
                 (picked.key, Some(picked.number))
             }
-            Asked::Tick => (manager::tick(picture), None),
-            Asked::Fresh { length, heap_length } => (manager::fresh(length, heap_length, picture), None),
+            Asked::Tick => (M::tick(picture), None),
+            Asked::Fresh { length, heap_length } => (M::fresh(length, heap_length, picture), None),
         };
         write_longword(key as u32, out);
         out.push(b' ');
@@ -213,20 +213,21 @@ pub fn write_runs(longwords: &[u32], out: &mut Vec<u8>) {
     }
 }
 
-/// Answers every trial up to the end of input.
-pub fn run(input: &mut impl Read, output: &mut impl Write) -> io::Result<()> {
+/// Answers every trial on a manager, up to the end of input.
+pub fn run<M: Manager>(input: &mut impl Read, output: &mut impl Write) -> io::Result<()> {
     let mut bench = Bench::default();
-    answer_lines(input, output, LONGEST_LINE, |line, out| bench.answer_line(line, out))
+    answer_lines(input, output, LONGEST_LINE, |line, out| bench.answer_line::<M>(line, out))
 }
 
 #[cfg(test)]
 mod tests {
     use super::*;
     use crate::fresh::fresh_picture;
+    use crate::manager::Ordinary;
 
     fn answers(input: &str) -> String {
         let mut output = Vec::new();
-        run(&mut input.as_bytes(), &mut output).unwrap();
+        run::<Ordinary>(&mut input.as_bytes(), &mut output).unwrap();
         String::from_utf8(output).unwrap()
     }
 

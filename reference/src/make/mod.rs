@@ -244,6 +244,7 @@ mod tests {
     use super::*;
     use crate::hexadecimal;
     use crate::keys::*;
+    use crate::manager::Ordinary;
     use crate::sound::{broken, first_broken, Rule};
     use crate::trial::Bench;
 
@@ -274,7 +275,7 @@ mod tests {
 
     fn answer(line: &str) -> String {
         let mut out = Vec::new();
-        Bench::default().answer_line(Some(line.as_bytes()), &mut out);
+        Bench::default().answer_line::<Ordinary>(Some(line.as_bytes()), &mut out);
         String::from_utf8(out).unwrap()
     }
 
@@ -441,7 +442,7 @@ mod tests {
                 input.push(b'\n');
             });
             let mut output = Vec::new();
-            crate::session::run(&mut &input[..], &mut output).unwrap();
+            crate::session::run::<Ordinary>(&mut &input[..], &mut output).unwrap();
             let answers: Vec<&[u8]> = output.split(|&character| character == b'\n').collect();
             assert_eq!(answers.len(), 3_001);
             let done = answers.iter().filter(|answer| !answer.starts_with(b"FFFFFFF")).count();

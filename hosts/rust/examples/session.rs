@@ -1,0 +1,18 @@
+//! Runs a session on the linked manager, from standard input to standard output.
+
+mod linked;
+
+use std::io::{stdin, stdout};
+use std::process::ExitCode;
+
+use linked::Linked;
+
+fn main() -> ExitCode {
+    match reference::session::run::<Linked>(&mut stdin().lock(), &mut stdout().lock()) {
+        Ok(()) => ExitCode::SUCCESS,
+        Err(error) => {
+            eprintln!("session: input or output failed: {error}");
+            ExitCode::FAILURE
+        }
+    }
+}

@@ -1,0 +1,85 @@
+//! The manager's functions over lent slices, of any length and contents: the archive's own, made safe. Each returns its key.
+
+mod archive {
+    unsafe extern "C" {
+        pub fn krowjyvan_fresh(picture: *mut u32, length: usize, n: u32, h: u32) -> i32;
+        pub fn krowjyvan_call(
+            picture: *mut u32,
+            length: usize,
+            trap: u32,
+            registers: *mut u32,
+            register_count: usize,
+            name: *const u8,
+            name_length: usize,
+        ) -> i32;
+        pub fn krowjyvan_pick(picture: *mut u32, length: usize, number: *mut u32) -> i32;
+        pub fn krowjyvan_tick(picture: *mut u32, length: usize) -> i32;
+        pub fn krowjyvan_error_text(
+            key: i32,
+            system: *const u8,
+            system_length: usize,
+            driver: *const u8,
+            driver_length: usize,
+            start: *mut usize,
+            count: *mut usize,
+        ) -> i32;
+    }
+}
+
+// In each call below the pointers and lengths are those of slices that Rust's rules keep apart, and nothing of them is kept:
+// that is all that the archive asks (include/krowjyvan.h, "What you must see to").
+
+/// Makes the slice a fresh picture of `n` longwords, `h` of them the heap.
+pub fn fresh(picture: &mut [u32], n: u32, h: u32) -> i32 {
+    // SAFETY: as said above.
+    unsafe { archive::krowjyvan_fresh(picture.as_mut_ptr(), picture.len(), n, h) }
+}
+
+/// A call: a trap, its registers and, for IO.OPEN, a name.
+pub fn call(picture: &mut [u32], trap: u32, registers: &mut [u32], name: &[u8]) -> i32 {
+    // SAFETY: as said above.
+    unsafe {
+        archive::krowjyvan_call(
+            picture.as_mut_ptr(),
+            picture.len(),
+            trap,
+            registers.as_mut_ptr(),
+            registers.len(),
+            name.as_ptr(),
+            name.len(),
+        )
+    }
+}
+
+/// A pick: the number of the job that has the turn, and the key that is delivered to it.
+pub fn pick(picture: &mut [u32]) -> (u32, i32) {
+    let mut number = 0;
+    // SAFETY: as said above; `number` is this function's own.
+    let key = unsafe { archive::krowjyvan_pick(picture.as_mut_ptr(), picture.len(), &mut number) };
+    (number, key)
+}
+
+/// A frame passes.
+pub fn tick(picture: &mut [u32]) -> i32 {
+    // SAFETY: as said above.
+    unsafe { archive::krowjyvan_tick(picture.as_mut_ptr(), picture.len()) }
+}
+
+/// The key of an error's text, and the text: a part of one of the two texts lent.
+pub fn error_text<'a>(key: i32, system: &'a [u8], driver: &'a [u8]) -> (i32, &'a [u8]) {
+    let (mut start, mut count) = (0, 0);
+    // SAFETY: as said above; `start` and `count` are this function's own.
+    let answer = unsafe {
+        archive::krowjyvan_error_text(
+            key,
+            system.as_ptr(),
+            system.len(),
+            driver.as_ptr(),
+            driver.len(),
+            &mut start,
+            &mut count,
+        )
+    };
+    let text = if answer == crate::constants::DONE && key > 0 { driver } else { system };
+    (answer, &text[start..start + count])
+}
