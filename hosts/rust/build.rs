@@ -5,22 +5,30 @@ use std::path::PathBuf;
 
 fn main() {
     println!("cargo::rerun-if-env-changed=KROWJYVAN_ARCHIVE");
-    let target = env::var("TARGET").unwrap_or_default();
-    if !(target.starts_with("x86_64-") && target.contains("-linux-")) {
-        println!("cargo::error=libkrowjyvan.a is for Linux on x86-64, and this build is for {target}: build with '--target x86_64-unknown-linux-gnu'.");
-        return;
+    if let Err(error) = link() {
+        println!("cargo::error={error}");
     }
-    let released = PathBuf::from(env::var("CARGO_MANIFEST_DIR").unwrap_or_default()).join("../../release");
-    let folder = env::var_os("KROWJYVAN_ARCHIVE").map_or(released, PathBuf::from);
-    let archive = folder.join("libkrowjyvan.a");
-    if !archive.is_file() {
-        println!(
-            "cargo::error=there is no {}: let KROWJYVAN_ARCHIVE name the folder that holds libkrowjyvan.a.",
-            archive.display()
-        );
-        return;
+}
+
+fn link() -> Result<(), String> {
+    let is = |variable: &str, wanted: &str| env::var(variable).is_ok_and(|found| found == wanted);
+    if !(is("CARGO_CFG_TARGET_ARCH", "x86_64")
+        && is("CARGO_CFG_TARGET_OS", "linux")
+        && is("CARGO_CFG_TARGET_POINTER_WIDTH", "64"))
+    {
+        let target = env::var("TARGET").unwrap_or_default();
+        return Err(format!("libkrowjyvan.a is for Linux on x86-64, and this build is for {target}: build with '--target x86_64-unknown-linux-gnu'."));
     }
+    let released = PathBuf::from(env::var_os("CARGO_MANIFEST_DIR").unwrap_or_default()).join("../../release");
+    let named = env::var_os("KROWJYVAN_ARCHIVE").filter(|folder| !folder.is_empty()).map_or(released, PathBuf::from);
+    let archive = named.join("libkrowjyvan.a").canonicalize().map_err(|_| {
+        format!(
+            "there is no {}/libkrowjyvan.a: let KROWJYVAN_ARCHIVE name its folder by the whole path.",
+            named.display()
+        )
+    })?;
     println!("cargo::rerun-if-changed={}", archive.display());
-    println!("cargo::rustc-link-search=native={}", folder.display());
+    println!("cargo::rustc-link-search=native={}", archive.parent().unwrap_or(&named).display());
     println!("cargo::rustc-link-lib=static=krowjyvan");
+    Ok(())
 }

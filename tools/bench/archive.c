@@ -1,4 +1,4 @@
-/* 100,000 calls of the manager through the archive: the same ones that tools/bench/inside makes inside. */
+/* 100,000 calls of the manager through the archive: the same ones that tools/bench/inside.main makes inside. */
 #include <stdio.h>
 
 #include "krowjyvan.h"

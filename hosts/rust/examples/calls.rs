@@ -1,4 +1,4 @@
-//! 100,000 calls of the manager by the methods of a picture: the same ones that tools/bench/inside makes inside.
+//! 100,000 calls of the manager by the methods of a picture: the same ones that tools/bench/inside.main makes inside.
 
 use krowjyvan::{JobNumber, Key, Picture};
 

@@ -26,16 +26,16 @@ mod archive {
     }
 }
 
-// In each call below the pointers and lengths are those of slices that Rust's rules keep apart, and nothing of them is kept:
-// that is all that the archive asks (include/krowjyvan.h, "What you must see to").
+// Each call below lends slices with their own lengths, and nothing of them is kept. One that is written is a `&mut`, which
+// overlaps nothing else. That is all that the archive asks (krowjyvan.h, "What you must see to").
 
-/// Makes the slice a fresh picture of `n` longwords, `h` of them the heap.
+/// Makes the slice, whose length is to be `n`, a fresh picture of `n` longwords, `h` of them the heap.
 pub fn fresh(picture: &mut [u32], n: u32, h: u32) -> i32 {
     // SAFETY: as said above.
     unsafe { archive::krowjyvan_fresh(picture.as_mut_ptr(), picture.len(), n, h) }
 }
 
-/// A call: a trap, its registers and, for IO.OPEN, a name.
+/// A call: a trap, its registers, which are to be 8, and for IO.OPEN a name.
 pub fn call(picture: &mut [u32], trap: u32, registers: &mut [u32], name: &[u8]) -> i32 {
     // SAFETY: as said above.
     unsafe {
@@ -51,7 +51,8 @@ pub fn call(picture: &mut [u32], trap: u32, registers: &mut [u32], name: &[u8]) 
     }
 }
 
-/// A pick: the number of the job that has the turn, and the key that is delivered to it.
+/// A pick: the number of the job that has the turn, and the key that is delivered to it. Where no job is ready the number
+/// is [`crate::constants::NOBODY`] and the key 0; where the picture isn't sound, that number and -16.
 pub fn pick(picture: &mut [u32]) -> (u32, i32) {
     let mut number = 0;
     // SAFETY: as said above; `number` is this function's own.
@@ -65,10 +66,11 @@ pub fn tick(picture: &mut [u32]) -> i32 {
     unsafe { archive::krowjyvan_tick(picture.as_mut_ptr(), picture.len()) }
 }
 
-/// The key of an error's text, and the text: a part of one of the two texts lent.
+/// The key of an error's text, and the text: a part of the driver's where the key asked about is positive, else of the
+/// system's; the empty part at the start of the system's where there is none.
 pub fn error_text<'a>(key: i32, system: &'a [u8], driver: &'a [u8]) -> (i32, &'a [u8]) {
     let (mut start, mut count) = (0, 0);
-    // SAFETY: as said above; `start` and `count` are this function's own.
+    // SAFETY: as said above; `start` and `count` are this function's own. The texts are only read, and may overlap.
     let answer = unsafe {
         archive::krowjyvan_error_text(
             key,

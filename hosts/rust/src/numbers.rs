@@ -2,7 +2,7 @@
 
 use std::fmt;
 
-use crate::constants::{NOBODY, TAG_WEIGHT};
+use crate::constants::{CURRENT_JOB, NOBODY, TAG_WEIGHT};
 
 macro_rules! number {
     ($(#[$meaning:meta])* $name:ident) => {
@@ -24,7 +24,7 @@ macro_rules! number {
 
         impl fmt::Display for $name {
             fn fmt(&self, f: &mut fmt::Formatter<'_>) -> fmt::Result {
-                write!(f, "${:08X}", self.0)
+                f.pad(&format!("${:08X}", self.0))
             }
         }
 
@@ -49,9 +49,9 @@ number! {
 impl JobNumber {
     /// The job that is always there.
     pub const ZERO: JobNumber = JobNumber(0);
-    /// Stands for the current job in every call, but for the owner of [`crate::Picture::mt_cjob`] and the top of
-    /// [`crate::Picture::mt_jinf`].
-    pub const CURRENT: JobNumber = JobNumber(0xFFFF_FFFF);
+    /// Means the current job in every call, but as the owner of [`crate::Picture::mt_cjob`] and the top of
+    /// [`crate::Picture::mt_jinf`], where it names no job.
+    pub const CURRENT: JobNumber = JobNumber(CURRENT_JOB);
 
     /// The job that a longword of the picture or a register names, or none where it holds the number for nobody.
     pub(crate) fn named(longword: u32) -> Option<JobNumber> {

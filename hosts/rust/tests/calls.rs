@@ -1,17 +1,82 @@
 //! The methods of a picture: each is the trap that it names, and what it tells is what the registers hold.
 
 use krowjyvan::constants::*;
-use krowjyvan::{error_text, ChannelNumber, JobNumber, Key, Picked, Picture, Registers, Room, SYSTEM_TEXT};
+use krowjyvan::{
+    error_text, lent, ChannelNumber, Created, Information, JobInformation, JobNumber, Key, Picked, Picture, Record,
+    Registers, Room, SYSTEM_TEXT,
+};
 
 fn hub() -> Picture {
     Picture::fresh(1_024, 256).unwrap()
 }
 
-/// The registers after a trap on a copy of the picture, which the trap leaves as given.
-fn trapped(picture: &Picture, trap: u32, before: Registers, name: &[u8]) -> (Registers, Picture) {
-    let (mut registers, mut after) = (before, picture.clone());
-    after.trap(trap, &mut registers, name).unwrap();
-    (registers, after)
+/// Sees that a method does to the picture what the trap does with these registers, and tells this.
+fn same<T: PartialEq + std::fmt::Debug>(
+    hub: &Picture,
+    (trap, mut registers, name): (u32, Registers, &[u8]),
+    method: impl FnOnce(&mut Picture) -> Result<T, Key>,
+    told: T,
+) {
+    let (mut by_trap, mut by_method) = (hub.clone(), hub.clone());
+    assert_eq!(by_trap.trap(trap, &mut registers, name), Ok(()));
+    assert_eq!(method(&mut by_method), Ok(told));
+    assert_eq!(by_method.longwords(), by_trap.longwords());
+}
+
+#[test]
+fn each_method_is_its_trap() {
+    let mut hub = hub();
+    let desk = hub.mt_cjob(Some(JobNumber::ZERO), 60, 40, 0).unwrap();
+    let other = hub.mt_cjob(None, 60, 40, 0).unwrap();
+    hub.mt_activ(desk.job, 100, true).unwrap();
+    assert_eq!(hub.pick().unwrap().job, Some(desk.job));
+    let helper = hub.mt_cjob(Some(JobNumber::ZERO), 8, 4, 0).unwrap();
+    hub.mt_susjb(helper.job, 9).unwrap();
+    assert_eq!(hub.pick().unwrap().job, Some(desk.job));
+    let room = hub.mt_alchp(20, helper.job).unwrap();
+    let queue = hub.io_open(helper.job, b"PIPE_8").unwrap();
+    hub.io_sbyte(queue, 200).unwrap();
+    let (d, o, h, q) = (desk.job.0, other.job.0, helper.job.0, queue.0);
+    let record = |job: JobNumber| Record { job, byte: 32 + 32 * job.position() };
+    let next = Created { job: JobNumber(0x0004_0004), first_byte: helper.first_byte + 32 };
+    let of =
+        |next, owner, priority, suspended, first_byte| JobInformation { next, owner, priority, suspended, first_byte };
+
+    let current = Information { current: desk.job, version: *b"1.00" };
+    same(&hub, (1, [0x0, 0, 0, 0, 0, 0, 0, 0], b""), |hub| hub.mt_inf(), current);
+    same(&hub, (1, [0x1, d, 60, 40, 0, 5, 0, 0], b""), |hub| hub.mt_cjob(Some(desk.job), 60, 40, 5), next);
+    same(&hub, (1, [0x1, NOBODY, 60, 40, 0, 0, 0, 0], b""), |hub| hub.mt_cjob(None, 60, 40, 0), next);
+    let last = of(None, Some(desk.job), 0, true, helper.first_byte);
+    same(&hub, (1, [0x2, h, d, 0, 0, 0, 0, 0], b""), |hub| hub.mt_jinf(helper.job, desk.job), last);
+    let first = of(Some(helper.job), Some(JobNumber::ZERO), 100, false, desk.first_byte);
+    same(&hub, (1, [0x2, d, 0, 0, 0, 0, 0, 0], b""), |hub| hub.mt_jinf(JobNumber::CURRENT, JobNumber::ZERO), first);
+    let alone = of(None, None, 0, false, other.first_byte);
+    same(&hub, (1, [0x2, o, o, 0, 0, 0, 0, 0], b""), |hub| hub.mt_jinf(other.job, other.job), alone);
+    same(&hub, (1, [0x4, h, 0, 0, 0, 0, 0, 0], b""), |hub| hub.mt_rjob(helper.job, 0), ());
+    same(&hub, (1, [0x5, d, 0, 77, 0, 0, 0, 0], b""), |hub| hub.mt_frjob(desk.job, 77), ());
+    let longest = 4 * (1_024 - 392 - 256) - 128 - 128 - 32 - 16;
+    same(&hub, (1, [0x6, 0, 0, 0, 0, 0, 0, 0], b""), |hub| hub.mt_free(), longest);
+    same(&hub, (1, [0x8, o, 0, 3, 0, 0, 0, 0], b""), |hub| hub.mt_susjb(other.job, 3), record(other.job));
+    let endless = u32::MAX;
+    same(
+        &hub,
+        (1, [0x8, o, 0, endless, 0, 0, 0, 0], b""),
+        |hub| hub.mt_susjb(other.job, WITHOUT_END),
+        record(other.job),
+    );
+    same(&hub, (1, [0x9, h, 0, 0, 0, 0, 0, 0], b""), |hub| hub.mt_reljb(helper.job), record(helper.job));
+    same(&hub, (1, [0xA, o, 127, 0, 0, 0, 0, 0], b""), |hub| hub.mt_activ(other.job, 127, false), record(other.job));
+    same(&hub, (1, [0xA, o, 3, endless, 0, 0, 0, 0], b""), |hub| hub.mt_activ(other.job, 3, true), record(other.job));
+    same(&hub, (1, [0xB, o, 7, 0, 0, 0, 0, 0], b""), |hub| hub.mt_prior(other.job, 7), record(other.job));
+    let behind = Room { first_byte: room.first_byte + 96, length: 48 };
+    same(&hub, (1, [0x18, 40, h, 0, 0, 0, 0, 0], b""), |hub| hub.mt_alchp(40, helper.job), behind);
+    same(&hub, (1, [0x19, 0, 0, 0, room.first_byte, 0, 0, 0], b""), |hub| hub.mt_rechp(room.first_byte), ());
+    let second = ChannelNumber(0x0002_0001);
+    same(&hub, (2, [0x1, h, 0, 0, 0, 0, 0, 0], b"PIPE_3"), |hub| hub.io_open(helper.job, b"PIPE_3"), second);
+    same(&hub, (2, [0x2, 0, 0, 0, q, 0, 0, 0], b""), |hub| hub.io_close(queue), ());
+    same(&hub, (3, [0x0, 0, 0, 0, q, 0, 0, 0], b""), |hub| hub.io_pend(queue), true);
+    same(&hub, (3, [0x1, 0, 0, 0, q, 0, 0, 0], b""), |hub| hub.io_fbyte(queue), 200);
+    same(&hub, (3, [0x5, 9, 0, 0, q, 0, 0, 0], b""), |hub| hub.io_sbyte(queue, 9), ());
 }
 
 #[test]
@@ -32,20 +97,18 @@ fn the_fish_tank() {
 }
 
 #[test]
-fn creating_and_asking() {
+fn the_owner_of_a_new_job() {
     let mut hub = hub();
-    let (after, left) = trapped(&hub, TRAP_1, [MT_CJOB, NOBODY, 60, 40, 0, 0x1234, 0, 0], b"");
-    let made = hub.mt_cjob(None, 60, 40, 0x1234).unwrap();
-    assert_eq!(((made.job.0, made.first_byte), &hub), ((after[D1], after[A0]), &left));
-    let helper = hub.mt_cjob(Some(made.job), 0, 4, 0).unwrap().job;
-    let first = hub.mt_jinf(JobNumber::ZERO, JobNumber::ZERO).unwrap();
-    assert_eq!((first.next, first.owner, first.priority, first.suspended), (Some(helper), None, 32, false));
-    let last = hub.mt_jinf(helper, JobNumber::CURRENT);
-    assert_eq!(last, Err(Key::INVALID_JOB));
-    let last = hub.mt_jinf(helper, JobNumber::ZERO).unwrap();
-    assert_eq!((last.next, last.owner, last.priority), (None, Some(JobNumber::ZERO), 0));
-    assert_eq!(hub.mt_inf().unwrap().current, JobNumber::ZERO);
-    assert_eq!(&hub.mt_inf().unwrap().version, b"1.00");
+    for nobody in [JobNumber::CURRENT, JobNumber(0x8000_0000), JobNumber(0x0009_0009)] {
+        assert_eq!(hub.mt_cjob(Some(nobody), 0, 4, 0), Err(Key::INVALID_JOB));
+    }
+    assert_eq!(hub.mt_cjob(None, 0, 3, 0), Err(Key::BAD_PARAMETER));
+    let desk = hub.mt_cjob(None, 0, 4, 0).unwrap().job;
+    let helper = hub.mt_cjob(Some(desk), 0, 4, 0).unwrap().job;
+    assert_eq!(hub.mt_jinf(desk, desk).unwrap().owner, None);
+    assert_eq!(hub.mt_jinf(helper, JobNumber::ZERO).unwrap().owner, Some(JobNumber::ZERO));
+    assert_eq!(hub.mt_jinf(helper, desk), Err(Key::INVALID_JOB));
+    assert_eq!(hub.mt_jinf(helper, JobNumber::CURRENT), Err(Key::INVALID_JOB));
 }
 
 #[test]
@@ -54,8 +117,9 @@ fn turns() {
     let desk = hub.mt_cjob(Some(JobNumber::ZERO), 0, 4, 0).unwrap().job;
     let record = hub.mt_activ(desk, 5, true).unwrap();
     assert_eq!((record.job, record.byte), (desk, 32 + 32 * desk.position()));
-    assert_eq!(hub.mt_inf(), Err(Key::INVALID_JOB));
+    assert_eq!((hub.current(), hub.mt_inf()), (None, Err(Key::INVALID_JOB)));
     assert_eq!(hub.pick().unwrap().job, Some(desk));
+    assert_eq!(hub.current(), Some(desk));
     assert_eq!(hub.mt_activ(desk, 5, false), Err(Key::NOT_COMPLETE));
     hub.mt_susjb(JobNumber::CURRENT, 2).unwrap();
     assert_eq!(hub.pick(), Ok(Picked { job: None, key: 0 }));
@@ -72,8 +136,8 @@ fn turns() {
     assert!(!hub.mt_jinf(other, desk).unwrap().suspended);
     assert_eq!(hub.mt_susjb(desk, -2), Err(Key::BAD_PARAMETER));
     hub.mt_susjb(desk, WITHOUT_END).unwrap();
-    hub.pick().unwrap();
-    assert_eq!(hub.mt_reljb(desk), Err(Key::INVALID_JOB), "both wait, so nobody is current");
+    hub.tick().unwrap();
+    assert_eq!(hub.pick(), Ok(Picked { job: None, key: 0 }));
 }
 
 #[test]
@@ -84,7 +148,10 @@ fn a_wait_ends_with_the_key_of_the_removal() {
     assert_eq!(hub.pick().unwrap().job, Some(desk));
     assert_eq!(hub.mt_rjob(desk, -20), Err(Key::NOT_COMPLETE));
     hub.mt_frjob(JobNumber::CURRENT, -20).unwrap();
-    assert_eq!(hub.pick(), Ok(Picked { job: Some(JobNumber::ZERO), key: -20 }));
+    let turn = hub.pick().unwrap();
+    assert_eq!(turn, Picked { job: Some(JobNumber::ZERO), key: -20 });
+    assert_eq!(turn.delivered().unwrap().to_string(), "read only (-20)");
+    assert_eq!(hub.pick().unwrap().delivered(), None);
     let desk = hub.mt_cjob(None, 0, 4, 0).unwrap().job;
     assert_eq!(hub.mt_rjob(desk, 0), Ok(()));
     hub.pick().unwrap();
@@ -93,16 +160,37 @@ fn a_wait_ends_with_the_key_of_the_removal() {
 }
 
 #[test]
+fn any_key_is_delivered_by_an_ordinary_removal() {
+    for key in [-20, -16, 0, 5] {
+        let mut hub = hub();
+        let desk = hub.mt_cjob(None, 0, 4, 0).unwrap().job;
+        let other = hub.mt_cjob(None, 0, 4, 0).unwrap().job;
+        hub.mt_activ(other, 1, false).unwrap();
+        assert_eq!(hub.pick().unwrap().job, Some(JobNumber::ZERO));
+        hub.mt_activ(desk, 1, true).unwrap();
+        assert_eq!(hub.pick().unwrap().job, Some(other));
+        hub.mt_prior(desk, 0).unwrap();
+        assert_eq!(hub.pick().unwrap().job, Some(other));
+        hub.mt_rjob(desk, key).unwrap();
+        let turns: Vec<Picked> = (0..2).map(|_| hub.pick().unwrap()).collect();
+        assert!(turns.contains(&Picked { job: Some(JobNumber::ZERO), key }), "{turns:?}");
+    }
+}
+
+#[test]
 fn memory() {
     let mut hub = hub();
+    let empty = hub.clone();
     let room = hub.mt_alchp(100, JobNumber::CURRENT).unwrap();
     assert_eq!(room, Room { first_byte: 1_584, length: 112 });
+    hub.longwords_mut()[room.indices()].fill(7);
+    assert_eq!(hub.mt_inf().map(|told| told.current), Ok(JobNumber::ZERO));
+    hub.longwords_mut()[room.indices()].fill(0);
     assert_eq!(hub.mt_alchp(5_000, JobNumber::ZERO), Err(Key::OUT_OF_MEMORY));
     assert_eq!(hub.mt_alchp(0, JobNumber::ZERO), Err(Key::BAD_PARAMETER));
     assert_eq!(hub.mt_rechp(room.first_byte + 4), Err(Key::BAD_PARAMETER));
-    let before = hub.clone();
     assert_eq!(hub.mt_rechp(room.first_byte), Ok(()));
-    assert_ne!(hub, before);
+    assert_eq!(hub, empty);
     let longest = hub.mt_free().unwrap();
     let made = hub.mt_cjob(None, longest - 4, 4, 0).unwrap();
     assert_eq!(hub.mt_free(), Ok(0));
@@ -117,14 +205,15 @@ fn queues() {
     assert_eq!(hub.io_open(JobNumber::ZERO, b"SER"), Err(Key::NOT_FOUND));
     assert_eq!(hub.io_open(JobNumber::ZERO, b"PIPE_x"), Err(Key::BAD_NAME));
     let queue = hub.io_open(JobNumber::CURRENT, b"pipe_2").unwrap();
-    assert_eq!(hub.io_pend(queue), Err(Key::NOT_COMPLETE));
+    assert_eq!(hub.io_pend(queue), Ok(false));
     hub.io_sbyte(queue, 250).unwrap();
     hub.io_sbyte(queue, 7).unwrap();
     assert_eq!(hub.io_sbyte(queue, 9), Err(Key::NOT_COMPLETE));
-    assert_eq!(hub.io_pend(queue), Ok(()));
+    assert_eq!(hub.io_pend(queue), Ok(true));
     assert_eq!((hub.io_fbyte(queue), hub.io_fbyte(queue)), (Ok(250), Ok(7)));
     assert_eq!(hub.io_close(queue), Ok(()));
     assert_eq!(hub.io_close(queue), Err(Key::CHANNEL_NOT_OPEN));
+    assert_eq!(hub.io_pend(queue), Err(Key::CHANNEL_NOT_OPEN));
     assert_eq!(hub.io_fbyte(ChannelNumber(0)), Err(Key::CHANNEL_NOT_OPEN));
 }
 
@@ -139,10 +228,41 @@ fn any_longwords_are_answered() {
         assert_eq!(picture.tick(), Err(Key::NOT_SOUND));
         assert_eq!(picture.into_longwords(), longwords);
     }
-    for (n, h) in [(0, 0), (1_024, 255), (1_023, 256), (u32::MAX, 256), (16_388, 256), (1_024, 632)] {
+    for (n, h) in [(0, 0), (1_024, 0), (1_024, 255), (1_023, 256), (u32::MAX, 256), (16_388, 256), (1_024, 632)] {
         assert_eq!(Picture::fresh(n, h), Err(Key::OUT_OF_RANGE));
     }
+    for (n, h) in [(1_024, 4), (1_024, 628), (16_384, 256)] {
+        let picture = Picture::fresh(n, h).unwrap();
+        assert_eq!((picture.longwords().len(), picture.longwords()[HEAP_WORD]), (n as usize, h));
+    }
     assert_eq!(hub().trap(9, &mut [0; 8], b""), Err(Key::BAD_PARAMETER));
+}
+
+#[test]
+fn any_slices_are_answered() {
+    let mut picture = hub().into_longwords();
+    for count in (0..8).chain(9..12) {
+        let mut registers = vec![0; count];
+        assert_eq!(lent::call(&mut picture, TRAP_1, &mut registers, b""), BAD_PARAMETER);
+        assert_eq!(registers, vec![0; count]);
+    }
+    assert_eq!(lent::call(&mut [], TRAP_1, &mut [0; 8], b""), NOT_SOUND);
+    assert_eq!(lent::pick(&mut []), (NOBODY, NOT_SOUND));
+    assert_eq!(lent::tick(&mut []), NOT_SOUND);
+    assert_eq!(lent::fresh(&mut [], 0, 0), OUT_OF_RANGE);
+    assert_eq!(lent::error_text(9, b"\0\x01a", b"xx"), (NOT_FOUND, &b""[..]));
+    assert_eq!(lent::error_text(-3, SYSTEM_TEXT, SYSTEM_TEXT), (DONE, &b"out of memory"[..]));
+}
+
+#[test]
+fn numbers_and_keys_show_themselves() {
+    let job = JobNumber(0x0007_0003);
+    assert_eq!((job.tag(), job.position()), (7, 3));
+    assert_eq!(format!("{job} {job:>10} {job:?}"), "$00070003  $00070003 JobNumber($00070003)");
+    assert_eq!(ChannelNumber(1).to_string(), "$00000001");
+    assert_eq!(Key::check(-99).unwrap_err().to_string(), "key -99");
+    assert_eq!((Key::BAD_NAME.number(), i32::from(Key::BAD_NAME)), (-12, -12));
+    assert_eq!(format!("{:?} {:?}", Key::NOT_SOUND, Key::check(5)), "Key::NOT_SOUND (-16) Err(Key(5))");
 }
 
 #[test]
