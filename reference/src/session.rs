@@ -5,7 +5,7 @@ use std::io::{self, Read, Write};
 use crate::hexadecimal::{self, write_longword};
 use crate::keys::BAD_PARAMETER;
 use crate::lines::answer_lines;
-use crate::manager::Manager;
+use crate::manager::{Manager, Ordinary};
 use crate::registers::Registers;
 
 /// The picture of a session starts fresh with this N and H.
@@ -63,7 +63,12 @@ fn read<'a>(line: &[u8], name: &'a mut [u8; LONGEST_NAME]) -> Option<Frame<'a>> 
 }
 
 /// Answers one line on the picture, with its line feed; none is a line over the limit.
-pub fn answer_line<M: Manager>(line: Option<&[u8]>, picture: &mut [u32], out: &mut Vec<u8>) {
+pub fn answer_line(line: Option<&[u8]>, picture: &mut [u32], out: &mut Vec<u8>) {
+    answer_line_on::<Ordinary>(line, picture, out);
+}
+
+/// The same on any manager.
+fn answer_line_on<M: Manager>(line: Option<&[u8]>, picture: &mut [u32], out: &mut Vec<u8>) {
     let mut name = [0; LONGEST_NAME];
     match line.map_or(Frame::Bad, |line| read_line(line, &mut name)) {
         Frame::Trap { trap, mut registers, name } => {
@@ -84,26 +89,33 @@ pub fn answer_line<M: Manager>(line: Option<&[u8]>, picture: &mut [u32], out: &m
 }
 
 /// The fresh picture that a session starts with.
-pub fn fresh_picture<M: Manager>() -> [u32; LENGTH] {
+pub fn fresh_picture() -> [u32; LENGTH] {
     let mut picture = [0; LENGTH];
-    M::fresh(LENGTH as u32, HEAP_LENGTH as u32, &mut picture);
+    Ordinary::fresh(LENGTH as u32, HEAP_LENGTH as u32, &mut picture);
     picture
 }
 
-/// Runs a session on a manager, from its first line to the end of input.
-pub fn run<M: Manager>(input: &mut impl Read, output: &mut impl Write) -> io::Result<()> {
-    let mut picture = fresh_picture::<M>();
-    answer_lines(input, output, LONGEST_LINE, |line, out| answer_line::<M>(line, &mut picture, out))
+/// Runs a session from its first line to the end of input.
+pub fn run(input: &mut impl Read, output: &mut impl Write) -> io::Result<()> {
+    let mut picture = fresh_picture();
+    answer_lines(input, output, LONGEST_LINE, |line, out| answer_line(line, &mut picture, out))
+}
+
+/// Runs a session on any manager.
+pub fn run_on<M: Manager>(input: &mut impl Read, output: &mut impl Write) -> io::Result<()> {
+    let mut picture = [0; LENGTH];
+    M::fresh(LENGTH as u32, HEAP_LENGTH as u32, &mut picture);
+    answer_lines(input, output, LONGEST_LINE, |line, out| answer_line_on::<M>(line, &mut picture, out))
 }
 
 #[cfg(test)]
 mod tests {
     use super::*;
-    use crate::manager::{fresh, Ordinary};
+    use crate::manager::fresh;
 
     fn answers(input: &[u8]) -> String {
         let mut output = Vec::new();
-        run::<Ordinary>(&mut &input[..], &mut output).unwrap();
+        run(&mut &input[..], &mut output).unwrap();
         String::from_utf8(output).unwrap()
     }
 
@@ -214,12 +226,12 @@ mod tests {
 
     #[test]
     fn bad_lines_change_nothing_whoever_is_current() {
-        let mut picture = fresh_picture::<Ordinary>();
+        let mut picture = fresh_picture();
         picture[crate::picture::CURRENT] = crate::picture::NOBODY;
         let before = picture;
         let mut out = Vec::new();
         for bad in [None, Some(&b""[..]), Some(b"01"), Some(b"F0 ")] {
-            answer_line::<Ordinary>(bad, &mut picture, &mut out);
+            answer_line(bad, &mut picture, &mut out);
         }
         assert_eq!(out, BAD.repeat(4).as_bytes());
         assert_eq!(picture, before);
@@ -279,6 +291,6 @@ mod tests {
     fn the_picture_starts_fresh() {
         let mut picture = [1; LENGTH];
         assert_eq!(fresh(1_024, 256, &mut picture), 0);
-        assert_eq!(fresh_picture::<Ordinary>(), picture);
+        assert_eq!(fresh_picture(), picture);
     }
 }

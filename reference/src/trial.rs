@@ -5,7 +5,7 @@ use std::io::{self, Read, Write};
 use crate::hexadecimal::{self, write_byte, write_longword, write_word};
 use crate::keys::Key;
 use crate::lines::answer_lines;
-use crate::manager::Manager;
+use crate::manager::{Manager, Ordinary};
 use crate::picture::GREATEST_LENGTH;
 
 /// The most characters of a trial's line.
@@ -213,8 +213,13 @@ pub fn write_runs(longwords: &[u32], out: &mut Vec<u8>) {
     }
 }
 
-/// Answers every trial on a manager, up to the end of input.
-pub fn run<M: Manager>(input: &mut impl Read, output: &mut impl Write) -> io::Result<()> {
+/// Answers every trial up to the end of input.
+pub fn run(input: &mut impl Read, output: &mut impl Write) -> io::Result<()> {
+    run_on::<Ordinary>(input, output)
+}
+
+/// The same on any manager.
+pub fn run_on<M: Manager>(input: &mut impl Read, output: &mut impl Write) -> io::Result<()> {
     let mut bench = Bench::default();
     answer_lines(input, output, LONGEST_LINE, |line, out| bench.answer_line::<M>(line, out))
 }
@@ -223,11 +228,10 @@ pub fn run<M: Manager>(input: &mut impl Read, output: &mut impl Write) -> io::Re
 mod tests {
     use super::*;
     use crate::fresh::fresh_picture;
-    use crate::manager::Ordinary;
 
     fn answers(input: &str) -> String {
         let mut output = Vec::new();
-        run::<Ordinary>(&mut input.as_bytes(), &mut output).unwrap();
+        run(&mut input.as_bytes(), &mut output).unwrap();
         String::from_utf8(output).unwrap()
     }
 

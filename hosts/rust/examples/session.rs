@@ -8,7 +8,7 @@ use std::process::ExitCode;
 use linked::Linked;
 
 fn main() -> ExitCode {
-    match reference::session::run::<Linked>(&mut stdin().lock(), &mut stdout().lock()) {
+    match reference::session::run_on::<Linked>(&mut stdin().lock(), &mut stdout().lock()) {
         Ok(()) => ExitCode::SUCCESS,
         Err(error) => {
             eprintln!("session: input or output failed: {error}");

@@ -8,7 +8,7 @@ use std::process::ExitCode;
 use linked::Linked;
 
 fn main() -> ExitCode {
-    match reference::trial::run::<Linked>(&mut stdin().lock(), &mut stdout().lock()) {
+    match reference::trial::run_on::<Linked>(&mut stdin().lock(), &mut stdout().lock()) {
         Ok(()) => ExitCode::SUCCESS,
         Err(error) => {
             eprintln!("trial: input or output failed: {error}");

@@ -3,10 +3,8 @@
 use std::io::{stdin, stdout};
 use std::process::ExitCode;
 
-use reference::manager::Ordinary;
-
 fn main() -> ExitCode {
-    match reference::session::run::<Ordinary>(&mut stdin().lock(), &mut stdout().lock()) {
+    match reference::session::run(&mut stdin().lock(), &mut stdout().lock()) {
         Ok(()) => ExitCode::SUCCESS,
         Err(error) => {
             eprintln!("session: input or output failed: {error}");

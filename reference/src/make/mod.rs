@@ -442,7 +442,7 @@ mod tests {
                 input.push(b'\n');
             });
             let mut output = Vec::new();
-            crate::session::run::<Ordinary>(&mut &input[..], &mut output).unwrap();
+            crate::session::run(&mut &input[..], &mut output).unwrap();
             let answers: Vec<&[u8]> = output.split(|&character| character == b'\n').collect();
             assert_eq!(answers.len(), 3_001);
             let done = answers.iter().filter(|answer| !answer.starts_with(b"FFFFFFF")).count();

@@ -2,7 +2,6 @@
 
 use super::world::{Act, Mix, Step, World, LIVELY};
 use crate::hexadecimal::{write_byte, write_longword};
-use crate::manager::Ordinary;
 use crate::random::Random;
 use crate::session;
 
@@ -92,7 +91,7 @@ impl SessionKind {
 }
 
 pub fn make(kind: SessionKind, random: &mut Random, count: usize, take: &mut dyn FnMut(&[u8])) {
-    let mut world = World { picture: session::fresh_picture::<Ordinary>().to_vec() };
+    let mut world = World { picture: session::fresh_picture().to_vec() };
     let mut line = Vec::new();
     for _ in 0..count {
         let step = world.step(random, kind.mix());
@@ -106,7 +105,7 @@ pub fn make(kind: SessionKind, random: &mut Random, count: usize, take: &mut dyn
         }
         take(&line);
         // The session itself says what came of the line, spoilt or not.
-        session::answer_line::<Ordinary>(Some(&line), &mut world.picture, &mut Vec::new());
+        session::answer_line(Some(&line), &mut world.picture, &mut Vec::new());
     }
 }
 
