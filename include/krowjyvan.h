@@ -38,7 +38,7 @@
  *   - `number`, `start` and `count` are never null.
  *
  * What words mean
- *   live        of a job or a channel: from its creation to its removal. Its number names it as long, and never anything else
+ *   live        of a job or a channel: from its creation to its removal. So long its number names it, and after that nothing
  *   current     the job that has the turn: the one that the last pick chose. Every call is the current job's
  *   active      of a job: its priority isn't 0. A new one isn't active
  *   suspended   of a job: its timeout isn't 0. A job that waits for another is suspended without end
@@ -68,7 +68,7 @@ extern "C" {
 #define KROWJYVAN_CHANNEL_NOT_OPEN (-6)  /* [ERR.NO] no such channel; channel positions or tags are used up */
 #define KROWJYVAN_NOT_FOUND (-7)         /* [ERR.NF] the name isn't PIPE; no such error text */
 #define KROWJYVAN_BAD_NAME (-12)         /* [ERR.BN] PIPE_ isn't followed by 1 to 5 digits worth 1 to 32,766 */
-#define KROWJYVAN_BAD_PARAMETER (-15)    /* [ERR.BP] any other bad parameter; no such trap or call; registers not 8 */
+#define KROWJYVAN_BAD_PARAMETER (-15)    /* [ERR.BP] any other bad parameter; the name PIPE alone; no such call; registers not 8 */
 #define KROWJYVAN_NOT_SOUND (-16)        /* [ERR.FE] the picture isn't sound */
 
 /* The registers of a call, by their index. */
@@ -113,7 +113,7 @@ extern "C" {
  * MT.ALCHP    D1 bytes, at least 1; D2* the owner         -> D1 bytes that can be used, A0 the first; the others 0
  * MT.RECHP    A0 the first byte of a room of MT.ALCHP     -> all 0
  * IO.OPEN     D1* the owner; the name PIPE_n, capital or  -> D1 the owner, A0 the channel, whose queue is empty
- *             small, n the length of the queue in bytes
+ *             small, n the bytes that the queue holds
  * IO.CLOSE    A0 the channel                              -> nothing
  * IO.PEND     A0 the channel, D3 0                        -> nothing: done if a byte waits, else -1
  * IO.FBYTE    A0 the channel, D3 0                        -> D1 the oldest byte, which is taken out; -1 if there is none

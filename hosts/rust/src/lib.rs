@@ -23,7 +23,7 @@
 //!
 //! | word | means |
 //! |---|---|
-//! | live | of a job or a channel: from its creation to its removal; its number names it as long, and never anything else |
+//! | live | of a job or a channel: from its creation to its removal; so long its number names it, and after that nothing |
 //! | active | of a job: its priority isn't 0; a new one isn't active |
 //! | suspended | of a job: its timeout isn't 0; a job that waits for another is suspended without end |
 //! | ready | active and not suspended: a pick chooses among the ready jobs |
