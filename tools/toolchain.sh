@@ -51,13 +51,14 @@ need_python() {
     }
 }
 
-# What compiles C and Rust for x86-64, looks into it and runs it: x86_cc, x86_nm, x86_cargo and x86_run. On Arm these are Debian's packages, a C compiler and library
-# that are installed (the architecture amd64 is added to dpkg's) and a Rust that is unpacked into reference/target/cross alone, and the kit's
-# emulator. Fails where they can't be had.
+# What compiles C and Rust for x86-64, looks into it and runs it: x86_cc, x86_cargo, x86_nm and what stands before a command, x86_runner. On Arm these
+# are Debian's packages, a C compiler and library that are installed (the architecture amd64 is added to dpkg's) and a Rust that is unpacked into
+# reference/target/cross alone, and the kit's emulator. Fails where they can't be had.
 need_x86() {
-    x86_cc=cc x86_nm=nm x86_system=/ x86_rust=$PWD/reference/target/cross/usr
+    x86_cc=cc x86_nm=nm x86_system=/ x86_runner=() x86_rust=$PWD/reference/target/cross/usr
     [ "$(uname -m)" = x86_64 ] && return
     x86_cc=x86_64-linux-gnu-gcc x86_nm=x86_64-linux-gnu-nm x86_system=/usr/x86_64-linux-gnu
+    x86_runner=("$machine_tools/bin/qemu-x86_64" -L "$x86_system")
     if ! command -v "$x86_cc" >/dev/null || [ ! -x "$x86_rust/bin/rustc" ]; then
         dpkg --add-architecture amd64
         (apt-get update && apt-get install -y --no-install-recommends gcc-x86-64-linux-gnu libc6-dev-amd64-cross) >/dev/null 2>&1
@@ -80,7 +81,7 @@ x86_cargo() {
         cargo "$@"
     else
         LD_LIBRARY_PATH=$(echo "$x86_rust"/lib/*-linux-gnu "$x86_rust"/lib/llvm-*/lib | tr ' ' :) RUSTC=$x86_rust/bin/rustc \
-            CARGO_TARGET_X86_64_UNKNOWN_LINUX_GNU_LINKER=$x86_cc CARGO_TARGET_X86_64_UNKNOWN_LINUX_GNU_RUNNER="$machine_tools/bin/qemu-x86_64 -L $x86_system" \
+            CARGO_TARGET_X86_64_UNKNOWN_LINUX_GNU_LINKER=$x86_cc CARGO_TARGET_X86_64_UNKNOWN_LINUX_GNU_RUNNER="${x86_runner[*]}" \
             cargo "$@" --target x86_64-unknown-linux-gnu
     fi
 }
@@ -88,11 +89,6 @@ x86_cargo() {
 # The folder of what x86_cargo has built in the folder named.
 x86_built() {
     if [ "$(uname -m)" = x86_64 ]; then echo "$1/target/release"; else echo "$1/target/x86_64-unknown-linux-gnu/release"; fi
-}
-
-# Runs what the two have compiled.
-x86_run() {
-    if [ "$(uname -m)" = x86_64 ]; then "$@"; else "$machine_tools/bin/qemu-x86_64" -L "$x86_system" "$@"; fi
 }
 
 # The emulator with the plug-in that counts instructions, which is compiled into a folder; Debian's package qemu-user is installed where it is missing.
@@ -144,24 +140,31 @@ is_built() {
     [ -f "$1" ] && [ -z "$(find crates.txt crates -newer "$1" \( -name '*.rt' -o -name '*.antt' -o -name crates.txt \) -print -quit)" ]
 }
 
+# Shows how many crates are proved of how many, by what `rt` writes to its log, until the script that calls it ends it or ends.
+show_proved() { # LOG ALL
+    local proved shown=0
+    while sleep 0.5 && kill -0 $$ 2>/dev/null; do
+        proved=$(grep -c '^rt: [a-z_]* proved (' "$1")
+        if [ -t 2 ]; then
+            printf '\r%d of %d crates proved ' "$proved" "$2" >&2
+        elif [ "$proved" -ge $((shown + 10)) ]; then
+            shown=$proved
+            echo "$proved of $2 crates proved" >&2
+        fi
+    done
+}
+
 # Builds by a command of rt's what a crate gives, and shows how many of the crates that it stands on are proved.
 build() { # COMMAND NAME FILE
-    local log=target/build-$2.log all proved=0 shown=0 status
+    local log=target/build-$2.log all status
     all=$(crates_of "$2" | wc -l)
     mkdir -p target
     echo "Building $2: this proves the $all crates that it stands on, and from nothing takes some minutes." >&2
-    rt "$1" "$2" </dev/null >"$log" 2>&1 &
-    while sleep 0.2 && kill -0 $! 2>/dev/null; do
-        proved=$(grep -c '^rt: [a-z_]* proved (' "$log")
-        if [ -t 2 ]; then
-            printf '\r%d of %d crates proved ' "$proved" "$all" >&2
-        elif [ "$proved" -ge $((shown + 10)) ]; then
-            shown=$proved
-            echo "$proved of $all crates proved" >&2
-        fi
-    done
-    wait $!
+    : >"$log"
+    show_proved "$log" "$all" &
+    rt "$1" "$2" </dev/null >"$log" 2>&1
     status=$?
+    kill $! && wait $! 2>/dev/null
     [ ! -t 2 ] || echo >&2
     if [ "$status" -ne 0 ]; then
         tail -n 20 "$log" >&2

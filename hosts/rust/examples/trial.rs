@@ -5,14 +5,8 @@ mod linked;
 use std::io::{stdin, stdout};
 use std::process::ExitCode;
 
-use linked::Linked;
+use linked::{ended, Linked};
 
 fn main() -> ExitCode {
-    match reference::trial::run_on::<Linked>(&mut stdin().lock(), &mut stdout().lock()) {
-        Ok(()) => ExitCode::SUCCESS,
-        Err(error) => {
-            eprintln!("trial: input or output failed: {error}");
-            ExitCode::FAILURE
-        }
-    }
+    ended("trial", reference::trial::run_on::<Linked>(&mut stdin().lock(), &mut stdout().lock()))
 }

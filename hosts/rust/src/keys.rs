@@ -54,12 +54,6 @@ impl Key {
     }
 }
 
-impl From<Key> for i32 {
-    fn from(key: Key) -> i32 {
-        key.0
-    }
-}
-
 impl fmt::Display for Key {
     fn fmt(&self, f: &mut fmt::Formatter<'_>) -> fmt::Result {
         match self.text() {

@@ -129,23 +129,11 @@ impl fmt::Debug for Picture {
     }
 }
 
-impl From<Vec<u32>> for Picture {
-    fn from(longwords: Vec<u32>) -> Picture {
-        Picture { longwords }
-    }
-}
-
-impl AsRef<[u32]> for Picture {
-    fn as_ref(&self) -> &[u32] {
-        &self.longwords
-    }
-}
-
 impl Picture {
     /// A fresh picture of `n` longwords, `h` of them the heap: job 0 is there, ready at priority 32, and current.
     ///
-    /// [`Key::OUT_OF_RANGE`] unless `n` is a multiple of 4 from 1,024 to 16,384, and `h` a multiple of 4, at least 4 and
-    /// at most `n - 396`.
+    /// [`Key::OUT_OF_RANGE`] unless `n` is a multiple of 4 from [`LEAST_SIZE`] to [`GREATEST_SIZE`], and `h` a multiple of
+    /// 4, at least 4, and [`HEAP_BASE`]` + h + 4` at most `n`.
     pub fn fresh(n: u32, h: u32) -> Result<Picture, Key> {
         let length = (n as usize).min(GREATEST_SIZE);
         let mut longwords = vec![0; length];

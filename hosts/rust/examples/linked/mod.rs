@@ -1,5 +1,8 @@
 //! The linked manager, to be run on lines.
 
+use std::io;
+use std::process::ExitCode;
+
 use krowjyvan::lent;
 use reference::keys::Key;
 use reference::manager::Manager;
@@ -28,5 +31,16 @@ impl Manager for Linked {
 
     fn error_text<'a>(key: Key, system: &'a [u8], driver: &'a [u8]) -> (Key, &'a [u8]) {
         lent::error_text(key, system, driver)
+    }
+}
+
+/// How a program ends: where its input or output failed, it says so.
+pub fn ended(program: &str, answered: io::Result<()>) -> ExitCode {
+    match answered {
+        Ok(()) => ExitCode::SUCCESS,
+        Err(error) => {
+            eprintln!("{program}: input or output failed: {error}");
+            ExitCode::FAILURE
+        }
     }
 }
