@@ -23,18 +23,19 @@
  *
  * What you may count on
  *   - Every call is answered, whatever stands in the buffers and however long they are: you need not check first.
- *   - A refusal leaves the picture as it was. krowjyvan_call then writes the key to D0 and no other register.
+ *   - A refusal leaves the picture as it was, and a table too. krowjyvan_call then writes the key to D0 and no other register.
  *   - Nothing is kept between calls. The archive has no data of its own, takes no memory and calls no other function, not
  *     even of the C library. A picture may be copied, or written to a file and read again on such a machine: the copy is as
  *     good. (To see whether one is sound, make a call with trap 0: KROWJYVAN_NOT_SOUND says that it isn't.)
  *   - Calls on different pictures may run at the same time, in as many threads as you like, and in signal handlers.
  *
  * What you must see to, because nothing can check it
- *   - Calls that are lent one picture must not run at the same time, nor may anything else write a buffer meanwhile.
+ *   - Calls that are lent one picture must not run at the same time, nor may anything else write a buffer meanwhile. (Reports of
+ *     one picture, each with a table of its own, may: they only read it.)
  *   - A length is the number of elements that really are at the address. It may be 0, and the pointer then may be null.
  *     (A picture whose length isn't its N is answered: it isn't sound.)
  *   - Pointers to longwords and to lengths are aligned as their type is, as those of C's own arrays and variables are.
- *   - What a call writes (picture, registers, `number`, `start`, `count`) overlaps nothing else that it is lent.
+ *   - What a call writes (picture, registers, table, `number`, `start`, `count`) overlaps nothing else that it is lent.
  *   - `number`, `start` and `count` are never null.
  *
  * What words mean
@@ -65,6 +66,7 @@ extern "C" {
 #define KROWJYVAN_INVALID_JOB (-2)       /* [ERR.NJ] no such job; nobody is current; job positions or tags are used up */
 #define KROWJYVAN_OUT_OF_MEMORY (-3)     /* [ERR.OM] no free block is long enough */
 #define KROWJYVAN_OUT_OF_RANGE (-4)      /* [ERR.OR] a fresh picture's sizes are bad */
+#define KROWJYVAN_BUFFER_OVERFLOW (-5)   /* [ERR.BO] a table has fewer lines than the tree that is to be reported has jobs */
 #define KROWJYVAN_CHANNEL_NOT_OPEN (-6)  /* [ERR.NO] no such channel; channel positions or tags are used up */
 #define KROWJYVAN_NOT_FOUND (-7)         /* [ERR.NF] the name isn't PIPE; no such error text */
 #define KROWJYVAN_BAD_NAME (-12)         /* [ERR.BN] PIPE_ isn't followed by 1 to 5 digits worth 1 to 32,766 */
@@ -202,6 +204,14 @@ extern "C" {
 #define KROWJYVAN_GREATEST_TIMEOUT 32767
 #define KROWJYVAN_WITHOUT_END (-1)
 
+/* A job's line in a report: its longwords, by their index. */
+#define KROWJYVAN_LINE_NUMBER 0
+#define KROWJYVAN_LINE_OWNER 1     /* its owner's number, or KROWJYVAN_NOBODY */
+#define KROWJYVAN_LINE_DEPTH 2     /* 0 for the top, 1 for a job that the top owns, 2 for one that such a job owns, and so on */
+#define KROWJYVAN_LINE_PRIORITY 3
+#define KROWJYVAN_LINE_SUSPENDED 4 /* 1 where it is suspended, else 0 */
+#define KROWJYVAN_LINE_LONGWORDS 5
+
 /*
  * Makes the lent array a fresh picture of n longwords, h of them the heap: one job, number 0, priority 32, is there and
  * current. h is a multiple of 4 and at least 4, and KROWJYVAN_HEAP_BASE + h + 4 is at most n. In the heap are the rooms of
@@ -234,6 +244,25 @@ int32_t krowjyvan_pick(uint32_t *picture, size_t length, uint32_t *number);
 
 /* A frame passes: each timeout that isn't without end falls by 1, and at 0 the job isn't suspended any more. Returns the key. */
 int32_t krowjyvan_tick(uint32_t *picture, size_t length);
+
+/*
+ * Reports the tree of the job `top`, as for a screen: a line for each of its jobs, by rising tag, so the top's comes first and
+ * every other behind its owner's. The table is lent by its longwords, KROWJYVAN_LINE_LONGWORDS a line; what is over, less than a
+ * line, is left alone. KROWJYVAN_JOBS lines are enough for any tree:
+ *
+ *     uint32_t table[KROWJYVAN_JOBS][KROWJYVAN_LINE_LONGWORDS];
+ *     size_t count;
+ *
+ *     krowjyvan_report_tree(hub, 2048, 0, table[0], KROWJYVAN_JOBS * KROWJYVAN_LINE_LONGWORDS, &count);
+ *     for (size_t i = 0; i < count; i++)
+ *         show(table[i][KROWJYVAN_LINE_NUMBER], table[i][KROWJYVAN_LINE_DEPTH]);
+ *
+ * `count` gets how many lines were written, from the table's first on; what stands behind them stays. Returns the key. Refused,
+ * it writes nothing to the table, and `count` gets 0. Looked at in this order: the picture, a top that isn't live (-2), such as
+ * KROWJYVAN_CURRENT_JOB, and a table with fewer lines than the tree has jobs (-5). Nobody needs to be current.
+ */
+int32_t krowjyvan_report_tree(const uint32_t *picture, size_t length, uint32_t top, uint32_t *table, size_t table_length,
+                              size_t *count);
 
 /*
  * The text of a key, in two texts that you lend: the system's, 21 strings for the keys -1 to -21 (krowjyvan_texts.h has one),

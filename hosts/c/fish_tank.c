@@ -74,6 +74,19 @@ static uint32_t open_queue(const char *what, uint32_t job)
     return registers[KROWJYVAN_A0];
 }
 
+/* Shows the leader's screen: job 0, and farther in the jobs of the desks, which it owns. */
+static void show_screen(void)
+{
+    uint32_t table[KROWJYVAN_JOBS][KROWJYVAN_LINE_LONGWORDS];
+    size_t count;
+
+    expect(krowjyvan_report_tree(picture, N, 0, table[0], KROWJYVAN_JOBS * KROWJYVAN_LINE_LONGWORDS, &count), KROWJYVAN_DONE);
+    printf("The leader's screen:\n");
+    for (size_t i = 0; i < count; i++)
+        printf("    %*sjob $%08X, priority %u%s\n", (int)(4 * table[i][KROWJYVAN_LINE_DEPTH]), "", (unsigned)table[i][KROWJYVAN_LINE_NUMBER],
+               (unsigned)table[i][KROWJYVAN_LINE_PRIORITY], table[i][KROWJYVAN_LINE_SUSPENDED] ? ", suspended" : "");
+}
+
 int main(void)
 {
     uint32_t four, five, tank, pond, turn;
@@ -84,12 +97,14 @@ int main(void)
 
     four = create("Desk four starts");
     five = create("Desk five starts");
+    show_screen();
     tank = open_queue("Desk four opens a queue for its fish tank", four);
     expect(call("Desk four logs 8 milligrams of oxygen in its tank", KROWJYVAN_TRAP_3, KROWJYVAN_IO_SBYTE, 8, tank, ""), KROWJYVAN_DONE);
 
     expect(call("The workshop leader ends desk four, with all that it owns", KROWJYVAN_TRAP_1, KROWJYVAN_MT_FRJOB, four, 0, ""), KROWJYVAN_DONE);
     expect(krowjyvan_pick(picture, N, &turn), KROWJYVAN_DONE);
     printf("The next turn: job $%08X has it.\n", (unsigned)turn);
+    show_screen();
 
     pond = open_queue("Desk five opens a queue for its pond, where desk four's was", five);
     expect(call("Desk five logs 2 milligrams in its pond", KROWJYVAN_TRAP_3, KROWJYVAN_IO_SBYTE, 2, pond, ""), KROWJYVAN_DONE);

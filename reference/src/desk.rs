@@ -5,6 +5,7 @@ use crate::keys::Key;
 use crate::manager;
 use crate::picture::*;
 use crate::registers::*;
+use crate::report::{JobLine, Reported};
 use crate::sound::{broken, is_sound};
 use crate::turns::Picked;
 
@@ -99,6 +100,20 @@ impl Desk {
     pub fn tick(&mut self) {
         assert_eq!(manager::tick(&mut self.picture), 0);
         assert_eq!(broken(&self.picture), []);
+    }
+
+    /// The lines of a report over a table of so many. A refusal writes none, and the lines behind the written ones stay.
+    pub fn report(&self, top: u32, lines: usize) -> Result<Vec<JobLine>, Key> {
+        const KEPT: JobLine = JobLine { number: REST, owner: REST, depth: REST, priority: REST, suspended: true };
+        let mut table = vec![KEPT; lines];
+        let Reported { key, count } = manager::report(top, &mut table, &self.picture);
+        assert!(table[count..].iter().all(|line| *line == KEPT), "later lines keep what they held");
+        table.truncate(count);
+        if key == 0 {
+            return Ok(table);
+        }
+        assert_eq!(count, 0, "a refusal writes no line");
+        Err(key)
     }
 
     pub fn field(&mut self, number: u32, field: usize) -> &mut u32 {

@@ -1,5 +1,7 @@
 //! Hexadecimal digits: read in either case, written as capitals.
 
+use crate::report::JobLine;
+
 /// What a character that isn't a hexadecimal digit is worth.
 const NO_DIGIT: u8 = 0xFF;
 
@@ -59,6 +61,18 @@ pub fn write_byte(byte: u8, out: &mut Vec<u8>) {
     out.extend_from_slice(&[CAPITALS[usize::from(byte >> 4)], CAPITALS[usize::from(byte & 0xF)]]);
 }
 
+/// Writes job lines with a character between them, each as its five fields run together, suspended as 1 or 0.
+pub fn write_job_lines(lines: &[JobLine], between: u8, out: &mut Vec<u8>) {
+    for (k, line) in lines.iter().enumerate() {
+        if k > 0 {
+            out.push(between);
+        }
+        for field in [line.number, line.owner, line.depth, line.priority, u32::from(line.suspended)] {
+            write_longword(field, out);
+        }
+    }
+}
+
 #[cfg(test)]
 mod tests {
     use super::*;
@@ -75,5 +89,17 @@ mod tests {
         write_word(0xF00D, &mut out);
         write_byte(0x0E, &mut out);
         assert_eq!(out, b"0123ABCDF00D0E");
+    }
+
+    #[test]
+    fn job_lines_are_five_fields_run_together() {
+        let one = JobLine { number: 0x0003_0001, owner: 0xFFFF_FFFF, depth: 0, priority: 127, suspended: true };
+        let other = JobLine { number: 0x0005_001F, owner: 0x0003_0001, depth: 31, priority: 0, suspended: false };
+        let mut out = Vec::new();
+        write_job_lines(&[], b',', &mut out);
+        assert_eq!(out, b"");
+        write_job_lines(&[one, other], b',', &mut out);
+        let (first, second) = ("00030001FFFFFFFF000000000000007F00000001", "0005001F000300010000001F0000000000000000");
+        assert_eq!(String::from_utf8(out).unwrap(), format!("{first},{second}"));
     }
 }

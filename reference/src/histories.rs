@@ -9,6 +9,7 @@ use crate::manager;
 use crate::picture::*;
 use crate::random::Random;
 use crate::registers::*;
+use crate::report::{JobLine, Reported};
 use crate::sound::{first_broken, is_sound};
 
 /// How long each job has stayed ready, at one priority and unnamed by priority calls, without being picked.
@@ -178,6 +179,9 @@ fn any_picture_gets_an_answer_and_an_unsound_one_is_left_alone() {
             assert_eq!(manager::pick(&mut picture).key, NOT_SOUND);
             assert_eq!(manager::tick(&mut picture), NOT_SOUND);
             assert_eq!(picture, before);
+            let mut table = [JobLine::default(); 2];
+            assert_eq!(manager::report(0, &mut table, &picture), Reported { key: NOT_SOUND, count: 0 });
+            assert_eq!(table, [JobLine::default(); 2]);
         }
         if key != DONE {
             assert_eq!((&registers[D1..], &picture), (&given[D1..], &before));
@@ -203,4 +207,77 @@ fn tags_are_used_up_once_and_for_all() {
     assert_eq!(manager::call(1, &mut [0x1, NOBODY, 0, 4, 0, 0, 0, 0], b"", &mut picture), INVALID_JOB);
     assert_eq!(manager::call(2, &mut [0x1, 0, 0, 0, 0, 0, 0, 0], b"PIPE_1", &mut picture), CHANNEL_NOT_OPEN);
     assert!(is_sound(&picture));
+}
+
+/// How many owners lead from a job up to the top, or none where they don't.
+fn owners_up_to(picture: &[u32], job: u32, top: u32) -> Option<u32> {
+    if job == top {
+        return Some(0);
+    }
+    let owner = picture[job_record(position(job)) + job::OWNER];
+    (owner != NOBODY).then(|| owners_up_to(picture, owner, top))?.map(|depth| depth + 1)
+}
+
+/// The numbers that repeated $2 calls meet below a top: the top, then each answer, until 0.
+fn met_by_asks(picture: &[u32], top: u32) -> Vec<u32> {
+    let mut met = Vec::new();
+    let mut next = top;
+    while met.is_empty() || next != 0 {
+        met.push(next);
+        let mut registers = [0x2, next, top, 0, 0, 0, 0, 0];
+        assert_eq!(manager::call(1, &mut registers, b"", &mut picture.to_vec()), DONE);
+        next = registers[D1];
+    }
+    met
+}
+
+#[test]
+fn reports_have_the_members_of_a_tree_and_repeated_asks_meet_the_same() {
+    const KEPT: JobLine = JobLine { number: 1, owner: 2, depth: 3, priority: 4, suspended: true };
+    let mix = [
+        (Act::Create, 40),
+        (Act::Activate, 30),
+        (Act::Pick, 30),
+        (Act::Suspend, 5),
+        (Act::EndForced, 1),
+        (Act::SetPriority, 2),
+    ];
+    let mut random = Random::new(15);
+    let (mut asked, mut longest, mut deepest) = (0, 0, 0);
+    for _ in 0..8 {
+        let mut history = History::new(1_536, 128);
+        for _ in 0..250 {
+            history.step(&mut random, &mix);
+            let picture = &history.picture;
+            let jobs = World { picture: picture.clone() }.jobs();
+            for &top in &jobs {
+                let mut members: Vec<JobLine> = Vec::new();
+                for &number in &jobs {
+                    let record = job_record(position(number));
+                    members.extend(owners_up_to(picture, number, top).map(|depth| JobLine {
+                        number,
+                        owner: picture[record + job::OWNER],
+                        depth,
+                        priority: picture[record + job::PRIORITY],
+                        suspended: picture[record + job::TIMEOUT] != 0,
+                    }));
+                }
+                members.sort_by_key(|line| tag(line.number));
+                let count = members.len();
+                let mut table = vec![KEPT; count + 1];
+                assert_eq!(manager::report(top, &mut table[..count - 1], picture).key, BUFFER_OVERFLOW);
+                assert!(table.iter().all(|line| *line == KEPT));
+                assert_eq!(manager::report(top, &mut table, picture), Reported { key: DONE, count });
+                assert_eq!((&table[..count], table[count]), (&members[..], KEPT));
+                longest = longest.max(count);
+                deepest = deepest.max(members.iter().map(|line| line.depth).max().unwrap_or(0));
+                if picture[CURRENT] != NOBODY && random.once_in(4) {
+                    let numbers: Vec<u32> = members.iter().map(|line| line.number).collect();
+                    assert_eq!(met_by_asks(picture, top), numbers);
+                    asked += 1;
+                }
+            }
+        }
+    }
+    assert!(asked > 300 && longest > 10 && deepest > 3, "{asked} asked, {longest} lines, {deepest} deep");
 }

@@ -7,6 +7,7 @@ pub const NOT_COMPLETE: Key = -1;
 pub const INVALID_JOB: Key = -2;
 pub const OUT_OF_MEMORY: Key = -3;
 pub const OUT_OF_RANGE: Key = -4;
+pub const BUFFER_OVERFLOW: Key = -5;
 pub const CHANNEL_NOT_OPEN: Key = -6;
 pub const NOT_FOUND: Key = -7;
 pub const BAD_NAME: Key = -12;

@@ -1,6 +1,7 @@
-//! The manager of document 01 in ordinary Rust: jobs, heap, channels, queues and turns over a lent picture.
+//! The manager of document 01, with request 1 of document 02, in ordinary Rust: jobs, heap, channels, queues and turns
+//! over a lent picture, and the report of a tree.
 //!
-//! Written from the paper alone. It is the second reading that another version is compared with, and the
+//! Written from the papers alone. It is the second reading that another version is compared with, and the
 //! baseline for its speed.
 
 pub mod blocks;
@@ -12,6 +13,7 @@ pub mod keys;
 pub mod manager;
 pub mod picture;
 pub mod registers;
+pub mod report;
 pub mod sound;
 pub mod turns;
 

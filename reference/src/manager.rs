@@ -1,8 +1,9 @@
-//! The one door: every call over lent registers, name and picture; fresh, pick, tick and error text beside it.
+//! The one door: every call over lent registers, name and picture; fresh, pick, tick, report and error text beside it.
 
 use crate::keys::*;
 use crate::picture::*;
 use crate::registers::*;
+use crate::report::{self, JobLine, Reported};
 use crate::sound::is_sound;
 use crate::turns::{self, Picked};
 use crate::{blocks, channels, jobs};
@@ -16,6 +17,7 @@ pub trait Manager {
     fn call(trap: u32, registers: &mut [u32], name: &[u8], picture: &mut [u32]) -> Key;
     fn pick(picture: &mut [u32]) -> Picked;
     fn tick(picture: &mut [u32]) -> Key;
+    fn report(top: u32, table: &mut [JobLine], picture: &[u32]) -> Reported;
     fn error_text<'a>(key: Key, system: &'a [u8], driver: &'a [u8]) -> (Key, &'a [u8]);
 }
 
@@ -37,6 +39,10 @@ impl Manager for Ordinary {
 
     fn tick(picture: &mut [u32]) -> Key {
         tick(picture)
+    }
+
+    fn report(top: u32, table: &mut [JobLine], picture: &[u32]) -> Reported {
+        report(top, table, picture)
     }
 
     fn error_text<'a>(key: Key, system: &'a [u8], driver: &'a [u8]) -> (Key, &'a [u8]) {
@@ -97,6 +103,15 @@ pub fn tick(picture: &mut [u32]) -> Key {
     }
     turns::tick(picture);
     DONE
+}
+
+/// The tree of a job, a line of the lent table for each member; on an unsound picture key -16.
+pub fn report(top: u32, table: &mut [JobLine], picture: &[u32]) -> Reported {
+    let answer = if is_sound(picture) { report::report(JobNumber(top), table, picture) } else { Err(NOT_SOUND) };
+    match answer {
+        Ok(count) => Reported { key: DONE, count },
+        Err(key) => Reported { key, count: 0 },
+    }
 }
 
 #[cfg(test)]

@@ -1,12 +1,14 @@
-//! The session program: one frame a line in, one answer a line out.
+//! The session program: one frame a line in, its answer out: one line, but a report has one for each member.
 
 use std::io::{self, Read, Write};
 
-use crate::hexadecimal::{self, write_longword};
-use crate::keys::BAD_PARAMETER;
+use crate::hexadecimal::{self, write_job_lines, write_longword};
+use crate::keys::{BAD_PARAMETER, DONE};
 use crate::lines::answer_lines;
 use crate::manager::{Manager, Ordinary};
+use crate::picture::POSITIONS;
 use crate::registers::Registers;
+use crate::report::JobLine;
 
 /// The picture of a session starts fresh with this N and H.
 pub const LENGTH: usize = 1_024;
@@ -16,11 +18,14 @@ pub const LONGEST_LINE: usize = 512;
 
 const PICK: u8 = 0xF0;
 const TICK: u8 = 0xF1;
+const REPORT: u8 = 0xF2;
 /// The trap that takes a name.
 const OPEN_TRAP: u8 = 2;
 
+/// Digits of a number.
+const NUMBER_DIGITS: usize = 8;
 /// Digits of a trap line before the name: the trap number and eight registers.
-const TRAP_DIGITS: usize = 2 + 8 * 8;
+const TRAP_DIGITS: usize = 2 + 8 * NUMBER_DIGITS;
 /// The most bytes of a name.
 const LONGEST_NAME: usize = (LONGEST_LINE - TRAP_DIGITS) / 2;
 
@@ -30,6 +35,7 @@ pub enum Frame<'a> {
     Trap { trap: u8, registers: Registers, name: &'a [u8] },
     Pick,
     Tick,
+    Report { top: u32 },
     Bad,
 }
 
@@ -44,15 +50,19 @@ fn read<'a>(line: &[u8], name: &'a mut [u8; LONGEST_NAME]) -> Option<Frame<'a>> 
     }
     let (&trap, behind) = line.split_first_chunk()?;
     let trap = hexadecimal::byte(trap)?;
-    if trap == PICK || trap == TICK {
-        return behind.is_empty().then_some(if trap == PICK { Frame::Pick } else { Frame::Tick });
+    match trap {
+        PICK if behind.is_empty() => return Some(Frame::Pick),
+        TICK if behind.is_empty() => return Some(Frame::Tick),
+        REPORT if behind.len() == NUMBER_DIGITS => return Some(Frame::Report { top: hexadecimal::number(behind)? }),
+        PICK | TICK | REPORT => return None,
+        _ => {}
     }
     if line.len() < TRAP_DIGITS || line.len() > TRAP_DIGITS && trap != OPEN_TRAP {
         return None;
     }
     let (digits, behind) = behind.split_at(TRAP_DIGITS - 2);
     let mut registers = [0; 8];
-    for (register, digits) in registers.iter_mut().zip(digits.chunks_exact(8)) {
+    for (register, digits) in registers.iter_mut().zip(digits.chunks_exact(NUMBER_DIGITS)) {
         *register = hexadecimal::number(digits)?;
     }
     let (pairs, _) = behind.as_chunks::<2>();
@@ -83,6 +93,15 @@ fn answer_line_on<M: Manager>(line: Option<&[u8]>, picture: &mut [u32], out: &mu
             write_longword(picked.key as u32, out);
         }
         Frame::Tick => write_longword(M::tick(picture) as u32, out),
+        Frame::Report { top } => {
+            let mut table = [JobLine::default(); POSITIONS];
+            let reported = M::report(top, &mut table, picture);
+            if reported.key == DONE {
+                write_job_lines(&table[..reported.count], b'\n', out);
+            } else {
+                write_longword(reported.key as u32, out);
+            }
+        }
         Frame::Bad => write_longword(BAD_PARAMETER as u32, out),
     }
     out.push(b'\n');
@@ -210,6 +229,24 @@ mod tests {
             "0".repeat(514),
             "0".repeat(100_000),
             "F2".into(),
+            "f2".into(),
+            "F200".into(),
+            "F2000000".into(),
+            "F20000000".into(),
+            "F2000000000".into(),
+            "F20000000000".into(),
+            "F200000000F0".into(),
+            "F20000000000000000".into(),
+            "F20000000G".into(),
+            "F2G0000000".into(),
+            "F2 0000000".into(),
+            "F2-0000001".into(),
+            "F200000000\r".into(),
+            " F200000000".into(),
+            format!("F2{}", &good[2..]),
+            format!("f2{}", &good[2..]),
+            format!("F2{}", &named[2..]),
+            format!("F2{}", "0".repeat(510)),
             "\u{e9}\u{e9}".into(),
         ];
         for line in &bad {
@@ -251,10 +288,60 @@ mod tests {
 
     #[test]
     fn other_trap_numbers_with_66_digits_answer_registers() {
-        for trap in [0x00, 0x04, 0x7F, 0xEF, 0xF2, 0xFE, 0xFF] {
+        for trap in [0x00, 0x04, 0x7F, 0xEF, 0xF3, 0xFE, 0xFF] {
             let expected = registers([0xFFFF_FFF1, 1, 2, 3, 4, 5, 6, 7]);
             assert_eq!(answers(line(trap, [0, 1, 2, 3, 4, 5, 6, 7], b"").as_bytes()), expected);
         }
+    }
+
+    #[test]
+    fn a_report_gives_a_line_for_each_member_or_the_key() {
+        let create = |owner: u32| line(1, [0x1, owner, 0, 4, 0, 0, 0, 0], b"");
+        let created = |number: u32, room: u32| registers([0, number, 0, 4, room, 0, 0, 0]);
+        let input = [&create(0), &create(0xFFFF_FFFF), "F200000000\n", "f20001000A\nF200010001\nF200020002\n"].concat();
+        let output = [
+            &created(0x0001_0001, 2_608),
+            &created(0x0002_0002, 2_640),
+            "00000000FFFFFFFF000000000000002000000000\n",
+            "0001000100000000000000010000000000000000\n",
+            "FFFFFFFE\n",
+            "0001000100000000000000000000000000000000\n",
+            "00020002FFFFFFFF000000000000000000000000\n",
+        ]
+        .concat();
+        assert_eq!(answers(input.as_bytes()), output);
+        assert_eq!(answers(b"f200000000"), "00000000FFFFFFFF000000000000002000000000\n");
+        for dead in ["0000FFFF", "00008000", "FFFFFFFF", "ffffffff", "00010000", "00000001", "00000020"] {
+            assert_eq!(answers(format!("F2{dead}\n").as_bytes()), "FFFFFFFE\n");
+        }
+        // Nobody need be current, and who is suspended is told.
+        let suspend = line(1, [0x8, 0, 0, 5, 0, 0, 0, 0], b"");
+        let known = [&registers([0, 0, 0, 5, 32, 0, 0, 0]), "00000000FFFFFFFF000000000000002000000001\n"].concat();
+        assert_eq!(answers(format!("{suspend}F200000000").as_bytes()), known);
+    }
+
+    #[test]
+    fn a_report_has_a_line_for_every_position() {
+        let create = line(1, [0x1, 0, 0, 4, 0, 0, 0, 0], b"");
+        let answer = answers(format!("{}F200000000\n", create.repeat(POSITIONS - 1)).as_bytes());
+        let lines: Vec<&str> = answer.lines().skip(POSITIONS - 1).collect();
+        assert_eq!(lines.len(), POSITIONS);
+        assert_eq!(lines[31], "001F001F00000000000000010000000000000000");
+    }
+
+    #[test]
+    fn a_report_changes_nothing() {
+        let mut picture = fresh_picture();
+        let before = picture;
+        let mut out = Vec::new();
+        answer_line(Some(b"F200000000"), &mut picture, &mut out);
+        answer_line(Some(b"F200000001"), &mut picture, &mut out);
+        assert_eq!(picture, before);
+        // A picture that isn't sound is no session's, but a report on it gives its key.
+        out.clear();
+        picture[crate::picture::SPARE] = 1;
+        answer_line(Some(b"F200000000"), &mut picture, &mut out);
+        assert_eq!(out, b"FFFFFFF0\n");
     }
 
     #[test]

@@ -1,22 +1,30 @@
-//! Trials: one call on any picture and registers a line, what came of it a line.
+//! Trials: one call on any picture and registers, or one report of a tree, a line; what came of it a line.
 
 use std::io::{self, Read, Write};
 
-use crate::hexadecimal::{self, write_byte, write_longword, write_word};
+use crate::hexadecimal::{self, write_byte, write_job_lines, write_longword, write_word};
 use crate::keys::Key;
 use crate::lines::answer_lines;
 use crate::manager::{Manager, Ordinary};
-use crate::picture::GREATEST_LENGTH;
+use crate::report::JobLine;
 
 /// The most characters of a trial's line.
 pub const LONGEST_LINE: usize = 300_000;
 /// The most registers, and the most bytes of a name.
 pub const MOST_REGISTERS: usize = 16;
 pub const LONGEST_NAME: usize = 1_000;
+/// The most longwords of a picture, some more than the greatest N, and the most that one run says.
+pub const LONGEST_PICTURE: usize = 16_400;
+pub const LONGEST_RUN: usize = 0x4000;
+/// The most job lines that are lent to a report, and what each holds before it.
+pub const MOST_LINES: usize = 64;
+pub const LENT_LINE: JobLine =
+    JobLine { number: 0xAAAA_AAAA, owner: 0xAAAA_AAAA, depth: 0xAAAA_AAAA, priority: 0xAAAA_AAAA, suspended: true };
 
 /// The calls that aren't traps; trap numbers lie below the first of them.
 pub const PICK: u8 = 0xF0;
 pub const TICK: u8 = 0xF1;
+pub const REPORT: u8 = 0xF2;
 pub const ERROR_TEXT: u8 = 0xFE;
 pub const FRESH: u8 = 0xFF;
 
@@ -29,10 +37,11 @@ enum Asked {
     Fresh { length: u32, heap_length: u32 },
 }
 
-/// What a trial asks: a call, or the text of an error.
+/// What a trial asks: a call, the report of a tree, or the text of an error.
 #[derive(Clone, Copy)]
 enum Trial {
     Call(Asked),
+    Report,
     ErrorText(Key),
 }
 
@@ -43,6 +52,7 @@ pub struct Bench {
     registers: Vec<u32>,
     lent: Vec<u32>,
     picture: Vec<u32>,
+    table: Vec<JobLine>,
     system: Vec<u8>,
     driver: Vec<u8>,
 }
@@ -53,6 +63,7 @@ impl Bench {
         match line.and_then(|line| self.read(line)) {
             None => out.push(b'?'),
             Some(Trial::ErrorText(key)) => self.answer_error_text::<M>(key, out),
+            Some(Trial::Report) => self.answer_report::<M>(out),
             Some(Trial::Call(asked)) => self.answer_call::<M>(asked, out),
         }
         out.push(b'\n');
@@ -71,12 +82,27 @@ impl Bench {
                 read_bytes(second, &mut self.system)?;
                 read_bytes(third, &mut self.driver)?;
             }
-            Trial::Call(_) => {
-                read_longwords(second, MOST_REGISTERS, false, &mut self.registers)?;
-                read_longwords(third, GREATEST_LENGTH, true, &mut self.lent)?;
+            Trial::Call(_) => self.read_lent(second, third)?,
+            Trial::Report => {
+                self.read_lent(second, third)?;
+                self.lend_table()?;
             }
         }
         Some(trial)
+    }
+
+    /// Reads the registers and the picture that are lent.
+    fn read_lent(&mut self, registers: &[u8], picture: &[u8]) -> Option<()> {
+        read_longwords(registers, MOST_REGISTERS, false, &mut self.registers)?;
+        read_longwords(picture, LONGEST_PICTURE, true, &mut self.lent)
+    }
+
+    /// Lends a report's table: its registers are two, the top and how many lines are lent.
+    fn lend_table(&mut self) -> Option<()> {
+        let [_, lines] = *self.registers else { return None };
+        self.table.clear();
+        self.table.resize(lines.min(MOST_LINES as u32) as usize, LENT_LINE);
+        (lines as usize <= MOST_LINES).then_some(())
     }
 
     fn read_call(&mut self, field: &[u8]) -> Option<Trial> {
@@ -84,6 +110,7 @@ impl Bench {
         let asked = match hexadecimal::byte(call)? {
             PICK if behind.is_empty() => Asked::Pick,
             TICK if behind.is_empty() => Asked::Tick,
+            REPORT if behind.is_empty() => return Some(Trial::Report),
             ERROR_TEXT if behind.len() == 8 => return Some(Trial::ErrorText(hexadecimal::number(behind)? as Key)),
             FRESH if behind.len() == 16 => {
                 let (length, heap_length) = behind.split_at(8);
@@ -108,6 +135,18 @@ impl Bench {
         for &byte in part {
             write_byte(byte, out);
         }
+    }
+
+    fn answer_report<M: Manager>(&mut self, out: &mut Vec<u8>) {
+        let reported = M::report(self.registers[0], &mut self.table, &self.lent);
+        write_longword(reported.key as u32, out);
+        out.push(b' ');
+        write_longword(reported.count as u32, out);
+        out.push(b' ');
+        if self.table.is_empty() {
+            out.push(b'-');
+        }
+        write_job_lines(&self.table, b',', out);
     }
 
     fn answer_call<M: Manager>(&mut self, asked: Asked, out: &mut Vec<u8>) {
@@ -189,7 +228,7 @@ fn read_longwords(field: &[u8], most: usize, runs: bool, longwords: &mut Vec<u32
             count = hexadecimal::number(digits)? as usize;
             rest = behind;
         }
-        if count == 0 || longwords.len() + count > most {
+        if count == 0 || count > LONGEST_RUN || longwords.len() + count > most {
             return None;
         }
         longwords.resize(longwords.len() + count, longword);
@@ -204,7 +243,7 @@ pub fn write_runs(longwords: &[u32], out: &mut Vec<u8>) {
     if longwords.is_empty() {
         out.push(b'-');
     }
-    for run in longwords.chunk_by(|one, next| one == next) {
+    for run in longwords.chunk_by(|one, next| one == next).flat_map(|run| run.chunks(LONGEST_RUN)) {
         write_longword(run[0], out);
         if run.len() > 1 {
             out.push(b'x');
@@ -294,6 +333,31 @@ mod tests {
     }
 
     #[test]
+    fn a_report_answers_key_count_and_the_lent_lines() {
+        let kept = "AAAAAAAAAAAAAAAAAAAAAAAAAAAAAAAA00000001";
+        let mut picture = fresh_picture(1_024, 256);
+        let alone = runs(&picture);
+        let zero = "00000000FFFFFFFF000000000000002000000000";
+        assert_eq!(answer(&format!("F2 0000000000000001 {alone}")), format!("00000000 00000001 {zero}"));
+        assert_eq!(answer(&format!("F2 0000000000000002 {alone}")), format!("00000000 00000001 {zero},{kept}"));
+        assert_eq!(answer(&format!("F2 0000000000000000 {alone}")), "FFFFFFFB 00000000 -");
+        assert_eq!(answer(&format!("F2 0000FFFF00000000 {alone}")), "FFFFFFFE 00000000 -");
+        assert_eq!(answer(&format!("F2 0000FFFF00000001 {alone}")), format!("FFFFFFFE 00000000 {kept}"));
+        assert_eq!(answer("F2 0000FFFF00000000 -"), "FFFFFFF0 00000000 -");
+        assert_eq!(answer("F2 0000000000000002 -"), format!("FFFFFFF0 00000000 {kept},{kept}"));
+        let most = answer(&format!("f2 0000000000000040 {}", alone.to_ascii_lowercase()));
+        assert_eq!(most, format!("00000000 00000001 {zero}{}", format!(",{kept}").repeat(63)));
+        crate::manager::call(1, &mut [0x1, 0, 0, 4, 0, 0, 0, 0], b"", &mut picture);
+        let two = runs(&picture);
+        let child = "0001000100000000000000010000000000000000";
+        assert_eq!(answer(&format!("F2 0000000000000001 {two}")), format!("FFFFFFFB 00000000 {kept}"));
+        assert_eq!(answer(&format!("F2 0000000000000002 {two}")), format!("00000000 00000002 {zero},{child}"));
+        // The lines are lent anew for each trial.
+        let input = format!("F2 0000000000000002 {two}\nF2 0000000000000002 -\n");
+        assert_eq!(answers(&input).lines().last(), Some(&*format!("FFFFFFF0 00000000 {kept},{kept}")));
+    }
+
+    #[test]
     fn error_texts() {
         assert_eq!(answer("FEFFFFFFFF 000361624300020000 -"), "00000000 616243");
         assert_eq!(answer("FEFFFFFFFE 000361624300020000 -"), "00000000 0000");
@@ -323,6 +387,17 @@ mod tests {
             "011 - -",
             "0G - -",
             "F2 - -",
+            "F2 00000000 -",
+            "F2 000000000000000100000000 -",
+            "F2 0000000000000041 -",
+            "F2 0000000080000000 -",
+            "F2 00000000FFFFFFFF -",
+            "F2 00000000x0002 -",
+            "F2 0000000000000001",
+            "F2 0000000000000001 - -",
+            "F200 0000000000000001 -",
+            "F200000000 0000000000000001 -",
+            "F3 0000000000000001 -",
             "FD - -",
             "F000 - -",
             "F100 - -",
@@ -343,7 +418,8 @@ mod tests {
             "01 - 00000000x0000",
             "01 - 00000000X0001",
             "01 - 00000000x4001",
-            "01 - 00000000x400000000000",
+            "01 - 00000000x4010",
+            "01 - 00000000x400000000000x0011",
             "01 - x0001",
             "01 - 00000000x0001x0001",
             "01\t- -",
@@ -364,8 +440,10 @@ mod tests {
         assert_eq!(answer(&format!("01{} - -", "00".repeat(LONGEST_NAME))), "FFFFFFF1 - -");
         let registers = "00000000".repeat(16);
         assert_eq!(answer(&format!("01 {registers} -")), format!("FFFFFFF1 {registers} -"));
-        assert_eq!(answer(&format!("01 - {}", "00000000x0001".repeat(16_384))), "FFFFFFF1 - -");
-        assert_eq!(answer(&format!("01 - {}", "00000000".repeat(16_385))), "?");
+        assert_eq!(answer(&format!("01 - {}", "00000000x0001".repeat(16_400))), "FFFFFFF1 - -");
+        assert_eq!(answer(&format!("01 - {}", "00000000".repeat(16_401))), "?");
+        assert_eq!(answer("F1 - 00000000x400000000000x0010"), "FFFFFFF0 - -");
+        assert_eq!(answer("FF0000401000000100 - 00000000x400000000000x0010"), "FFFFFFFC - -");
         let text = "00".repeat(149_993);
         assert_eq!(format!("FEFFFFFFFF {text} - ").len(), 300_000);
         assert_eq!(answer(&format!("FEFFFFFFFF {text} -")), "00000000 -");
@@ -377,5 +455,7 @@ mod tests {
         assert_eq!(runs(&[]), "-");
         assert_eq!(runs(&[1, 2, 2, 3, 3, 3, 1]), "0000000100000002x000200000003x000300000001");
         assert_eq!(runs(&vec![7; 16_384]), "00000007x4000");
+        assert_eq!(runs(&vec![7; 16_385]), "00000007x400000000007");
+        assert_eq!(runs(&vec![7; 16_400]), "00000007x400000000007x0010");
     }
 }

@@ -6,7 +6,7 @@
 #include "krowjyvan.h"
 #include "krowjyvan_texts.h"
 
-enum { N = 1024, H = 256, LONGEST = 20000 };
+enum { N = 1024, H = 256, LONGEST = 20000, LONGEST_TABLE = 100 * KROWJYVAN_LINE_LONGWORDS };
 
 static unsigned tried;
 
@@ -44,6 +44,28 @@ static int32_t asked(uint32_t *picture, size_t length, uint32_t trap, uint32_t c
     return key;
 }
 
+/* The table of the last report. */
+static uint32_t table[LONGEST_TABLE];
+
+/* A report's key, where so many longwords of the table are lent, and then how many lines were written; the others stay. */
+static int32_t reported(const uint32_t *picture, size_t length, uint32_t top, size_t lent, uint32_t fill, size_t *count)
+{
+    static uint32_t before[LONGEST_TABLE];
+    size_t written;
+    int32_t key;
+
+    for (size_t i = 0; i < LONGEST_TABLE; i++)
+        table[i] = before[i] = fill;
+    *count = 77;
+    key = krowjyvan_report_tree(picture, length, top, lent ? table : NULL, lent, count);
+    written = *count * KROWJYVAN_LINE_LONGWORDS;
+    expect("a report's lines are in the table", written <= lent, 1);
+    unchanged("the table behind a report's lines", table + written, before + written, LONGEST_TABLE - written);
+    if (key < 0)
+        expect("a refused report's lines", (int64_t)*count, 0);
+    return key;
+}
+
 /* Pictures that aren't sound, of many lengths: each function answers -16 and writes nothing. */
 static void unsound(void)
 {
@@ -55,12 +77,15 @@ static void unsound(void)
         for (size_t l = 0; l < sizeof lengths / sizeof *lengths; l++) {
             uint32_t number = 5;
             uint32_t *lent = lengths[l] ? picture : NULL;
+            size_t count;
             for (size_t i = 0; i < LONGEST; i++)
                 picture[i] = before[i] = fills[f];
             expect("a call", asked(lent, lengths[l], 1, 0, 8), KROWJYVAN_NOT_SOUND);
             expect("a pick", krowjyvan_pick(lent, lengths[l], &number), KROWJYVAN_NOT_SOUND);
             expect("a pick's number", number, KROWJYVAN_NOBODY);
             expect("a tick", krowjyvan_tick(lent, lengths[l]), KROWJYVAN_NOT_SOUND);
+            expect("a report", reported(lent, lengths[l], fills[f], LONGEST_TABLE, 7, &count), KROWJYVAN_NOT_SOUND);
+            expect("a report without a table", reported(lent, lengths[l], 0, 0, 7, &count), KROWJYVAN_NOT_SOUND);
             unchanged("an unsound picture", picture, before, LONGEST);
         }
 }
@@ -115,6 +140,73 @@ static void calls(void)
     expect("a tick", krowjyvan_tick(picture, N), KROWJYVAN_DONE);
 }
 
+/* Creates a job for the current one. */
+static uint32_t created(uint32_t *picture)
+{
+    uint32_t registers[KROWJYVAN_REGISTERS] = {KROWJYVAN_MT_CJOB, 0, 0, 4, 0, 0, 0, 0};
+
+    expect("a job", krowjyvan_call(picture, N, KROWJYVAN_TRAP_1, registers, 8, NULL, 0), KROWJYVAN_DONE);
+    return registers[KROWJYVAN_D1];
+}
+
+/* A line of the table, which holds this. */
+static void line(size_t index, uint32_t number, uint32_t owner, uint32_t depth, uint32_t priority, uint32_t suspended)
+{
+    const uint32_t *is = table + index * KROWJYVAN_LINE_LONGWORDS;
+
+    expect("a line's number", is[KROWJYVAN_LINE_NUMBER], number);
+    expect("a line's owner", is[KROWJYVAN_LINE_OWNER], owner);
+    expect("a line's depth", is[KROWJYVAN_LINE_DEPTH], depth);
+    expect("a line's priority", is[KROWJYVAN_LINE_PRIORITY], priority);
+    expect("a line's job is suspended", is[KROWJYVAN_LINE_SUSPENDED], suspended);
+}
+
+/* Tables of every length, also null, with any contents; tops that aren't live; and two dimensions. */
+static void reports(void)
+{
+    static uint32_t picture[N], before[N], lines[KROWJYVAN_JOBS][KROWJYVAN_LINE_LONGWORDS];
+    static const uint32_t fills[] = {0, 7, 0xAAAAAAAA, 0xFFFFFFFF};
+    uint32_t registers[KROWJYVAN_REGISTERS] = {KROWJYVAN_MT_SUSJB, 0, 0, 9, 0, 0, 0, 0};
+    uint32_t first, second, number;
+    size_t count;
+
+    expect("fresh", krowjyvan_fresh(picture, N, N, H), KROWJYVAN_DONE);
+    first = created(picture);
+    second = created(picture);
+    registers[KROWJYVAN_D1] = second;
+    expect("a suspended job", krowjyvan_call(picture, N, KROWJYVAN_TRAP_1, registers, 8, NULL, 0), KROWJYVAN_DONE);
+    memcpy(before, picture, sizeof before);
+    for (size_t f = 0; f < sizeof fills / sizeof *fills; f++) {
+        for (size_t lent = 0; lent <= LONGEST_TABLE; lent++) {
+            int enough = 3 * KROWJYVAN_LINE_LONGWORDS <= lent;
+            expect("a report", reported(picture, N, 0, lent, fills[f], &count), enough ? KROWJYVAN_DONE : KROWJYVAN_BUFFER_OVERFLOW);
+            expect("its lines", (int64_t)count, enough ? 3 : 0);
+        }
+        line(0, 0, KROWJYVAN_NOBODY, 0, 32, 0);
+        line(1, first, 0, 1, 0, 0);
+        line(2, second, 0, 1, 0, 1);
+        expect("one line", reported(picture, N, second, KROWJYVAN_LINE_LONGWORDS, fills[f], &count), KROWJYVAN_DONE);
+        expect("its count", (int64_t)count, 1);
+        line(0, second, 0, 0, 0, 1);
+        expect("four longwords", reported(picture, N, second, KROWJYVAN_LINE_LONGWORDS - 1, fills[f], &count), KROWJYVAN_BUFFER_OVERFLOW);
+    }
+    for (size_t lent = 0; lent <= LONGEST_TABLE; lent += LONGEST_TABLE) {
+        expect("the current job is no top", reported(picture, N, KROWJYVAN_CURRENT_JOB, lent, 7, &count), KROWJYVAN_INVALID_JOB);
+        expect("a number that was never given", reported(picture, N, first + KROWJYVAN_TAG_WEIGHT, lent, 7, &count), KROWJYVAN_INVALID_JOB);
+        expect("a position that isn't there", reported(picture, N, KROWJYVAN_JOBS, lent, 7, &count), KROWJYVAN_INVALID_JOB);
+        expect("a picture that is cut short", reported(picture, N - 4, 0, lent, 7, &count), KROWJYVAN_NOT_SOUND);
+    }
+    unchanged("a picture that was reported", picture, before, N);
+    expect("a table of lines", krowjyvan_report_tree(picture, N, 0, lines[0], KROWJYVAN_JOBS * KROWJYVAN_LINE_LONGWORDS, &count), KROWJYVAN_DONE);
+    expect("its second line", lines[1][KROWJYVAN_LINE_NUMBER], first);
+    expect("a pick", krowjyvan_pick(picture, N, &number), KROWJYVAN_DONE);
+    while (picture[KROWJYVAN_JOB_MASK_WORD] != 0xFFFFFFFF)
+        created(picture);
+    expect("a line too few", reported(picture, N, 0, (KROWJYVAN_JOBS - 1) * KROWJYVAN_LINE_LONGWORDS, 7, &count), KROWJYVAN_BUFFER_OVERFLOW);
+    expect("as many lines as there are jobs", reported(picture, N, 0, KROWJYVAN_JOBS * KROWJYVAN_LINE_LONGWORDS, 7, &count), KROWJYVAN_DONE);
+    expect("their count", (int64_t)count, KROWJYVAN_JOBS);
+}
+
 /* Texts: none lent, cut short, and every key. */
 static void texts(void)
 {
@@ -145,6 +237,7 @@ int main(void)
     unsound();
     sizes();
     calls();
+    reports();
     texts();
     printf("%u\n", tried);
     return EXIT_SUCCESS;

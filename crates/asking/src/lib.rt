@@ -33,7 +33,16 @@ fn is_nearer(p: &[u32], set: u64, tag: u32, n: u32, k: usize) -> bool
     ensures { λ r. ⌜ r ≡ nearer (now (p .entry)) set tag n k ⌝ }
 {
     let own = picture::tag_of(field_of(p, Table::Jobs, k, picture::NUMBER));
-    masks::is_member(set, k) & ((tag < own) & ((n == 0) | (own < picture::tag_of(n))))
+    if own <= tag {
+        return false;
+    }
+    if n == 0 {
+        return masks::is_member(set, k);
+    }
+    if picture::tag_of(n) <= own {
+        return false;
+    }
+    masks::is_member(set, k)
 }
 
 // The number of the member of the set with the next tag after `tag`, or 0.

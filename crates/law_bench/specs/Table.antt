@@ -1,4 +1,4 @@
--- Document 01, "Desk bench examples" (rules 123 to 126): the cases marked * in a single table, through the door, all from the fresh picture of the session
+-- Document 01, "Desk bench examples" (rules 130 to 133): the cases marked * in a single table, through the door, all from the fresh picture of the session
 -- but for the picks, whose picture is set up by hand.
 use Prim.Native.Nat.{ℕ, zero, suc}
 use mathlib.Core.Path.{_≡_}

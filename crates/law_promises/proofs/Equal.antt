@@ -26,6 +26,7 @@ whatever-meets-is-equal = record {
   fresh = λ p n h r s q q' a b. (two-are-one (a .0) (b .0), two-are-one (a .1) (b .1));
   pick = λ p r s q q' a b. (two-are-one (a .0) (b .0), two-are-one (a .1) (b .1));
   tick = λ p r s q q' a b. (two-are-one (a .0) (b .0), two-are-one (a .1) (b .1));
+  report-tree = λ p top table t t' r s a b. (two-are-one (a .0) (b .0), two-are-one (a .1) (b .1));
   error-text = λ key system driver r s a b. same-answer (spot-of key (now system) (now driver)) system driver r s a b;
   error-key = λ key system driver r s a b. two-are-one a b;
 }

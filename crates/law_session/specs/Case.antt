@@ -1,4 +1,4 @@
--- Document 01, the session program (rule 113): its whole case, and its sentences about lines, worked out.
+-- The session program (rule 118): document 01's whole case, a report, and its sentences about lines, worked out.
 use mathlib.Core.Path.{_≡_}
 use mathlib.Core.List.{List, [], _∷_, _++_}
 use Prim.Native.Nat.{ℕ}
@@ -27,6 +27,14 @@ NoInput = session [] ≡ []
 -- "a bad line (empty, ..) gives FFFFFFF1"
 abbrev pub EmptyLine : Type 0
 EmptyLine = session (10 ∷ []) ≡ 70 ∷ 70 ∷ 70 ∷ 70 ∷ 70 ∷ 70 ∷ 70 ∷ 49 ∷ 10 ∷ []
+
+-- F2 and the number of job 0: a line for it, number 0, unowned, depth 0, priority 32, not suspended
+abbrev pub ReportOfJobZero : Type 0
+ReportOfJobZero = session (70 ∷ 50 ∷ zeros 8 ++ 10 ∷ []) ≡ zeros 8 ++ replicate 8 70 ++ zeros 14 ++ 50 ∷ zeros 9 ++ 10 ∷ []
+
+-- and of a job that isn't there, -2
+abbrev pub ReportOfNobody : Type 0
+ReportOfNobody = session (70 ∷ 50 ∷ zeros 7 ++ 49 ∷ 10 ∷ []) ≡ replicate 7 70 ++ 69 ∷ 10 ∷ []
 
 -- "A line ends at a line feed or the end of input"; "Small letters are read too": f0 without a line feed
 abbrev pub LineAtEnd : Type 0

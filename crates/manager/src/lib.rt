@@ -1,6 +1,11 @@
-// The manager's whole public face: one door for every trap call, a fresh picture, the pick, the tick, and the text of an error.
+// The manager's whole public face: one door for every trap call, a fresh picture, the pick, the tick, the report of a tree, and the text of an error.
 use turns::Picked;
 use words::word;
+
+// The report of a tree, which changes no picture (report_table).
+pub use report_lines::JobLine;
+pub use report_table::Report;
+pub use report_table::report_tree;
 ghost use mathlib.Core.Path.{_≡_};
 ghost use Rattle.calls.specs.Outcome.{Meets};
 ghost use Rattle.calls.specs.Call.{outcome};

@@ -21,6 +21,10 @@ out-of-memory = negsuc 2
 abbrev pub out-of-range : ℤ
 out-of-range = negsuc 3
 
+-- -5: the table lent for a report has fewer lines than the tree has members
+abbrev pub buffer-overflow : ℤ
+buffer-overflow = negsuc 4
+
 -- -6: channel not live; channel positions or tags used up
 abbrev pub channel-not-open : ℤ
 channel-not-open = negsuc 5

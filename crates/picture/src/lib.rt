@@ -88,6 +88,8 @@ pub const OUT_OF_MEMORY: i32 = -3;
 
 pub const OUT_OF_RANGE: i32 = -4;
 
+pub const BUFFER_OVERFLOW: i32 = -5;
+
 pub const CHANNEL_NOT_OPEN: i32 = -6;
 
 pub const NOT_FOUND: i32 = -7;

@@ -9,7 +9,7 @@ use Rattle.program_fields.specs.declared.Call.{Call}
 use Rattle.program_fields.specs.declared.Count.{Count}
 use Rattle.program_fields.specs.declared.Count.the-variants.{Of}
 use Rattle.program_fields.specs.declared.Trial.{Trial}
-use Rattle.program_fields.specs.declared.Trial.the-variants.{Good, Bad}
+use Rattle.program_fields.specs.declared.Trial.the-variants.{Good, Report, Bad}
 use Rattle.program_fields.specs.declared.Asked.{Asked}
 use Rattle.program_fields.specs.declared.Asked.the-variants.{Text}
 use Rattle.program_fields.specs.Within.{Within, TextsFitting, Fitting}
@@ -30,7 +30,12 @@ texts-fit r key a b x y f e = subst (λ (t : Asked). TextsFitting t a b) e f
 pub trial-fits : (r : Trial) (call : Call) (a b d x y z : ℕ) → Fitting r a b d → r ≡ Good call x y z → (x ≤ a) × (y ≤ b) × (z ≤ d)
 trial-fits r call a b d x y z f e = subst (λ (t : Trial). Fitting t a b d) e f
 
--- what lies in a part of the line lies in the line
-pub longer-line : (r : Trial) (a b d e : ℕ) → a ≤ e → Fitting r a b d → Fitting r e b d
-longer-line (Good call x y z) a b d e l f = (omega (arith, f .0), f .1, f .2)
-longer-line Bad a b d e l f = tt
+-- a report that was answered fits
+pub report-fits : (r : Trial) (top a b d x y : ℕ) → Fitting r a b d → r ≡ Report top x y → (x ≤ 64) × (y ≤ d)
+report-fits r top a b d x y f e = subst (λ (t : Trial). Fitting t a b d) e f
+
+-- what fits rooms fits larger ones
+pub larger : (r : Trial) (a b d a′ b′ d′ : ℕ) → a ≤ a′ → b ≤ b′ → d ≤ d′ → Fitting r a b d → Fitting r a′ b′ d′
+larger (Good call x y z) a b d a′ b′ d′ l m n f = (omega (arith, f .0), omega (arith, f .1), omega (arith, f .2))
+larger (Report top x y) a b d a′ b′ d′ l m n f = (f .0, omega (arith, f .1))
+larger Bad a b d a′ b′ d′ l m n f = tt

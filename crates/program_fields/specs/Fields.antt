@@ -1,4 +1,4 @@
--- The fields of a line that asks for an error text, as they are read (rules 115 and 119).
+-- The fields of a line that asks for an error text, as they are read (rules 121 and 126).
 use mathlib.Core.Path.{_≡_}
 use mathlib.Core.Bool.{Bool, true, false}
 use mathlib.Core.List.{List, [], _∷_}

@@ -1,4 +1,4 @@
-// Lines of trials as they are read: a call on a picture, or a question for an error's text.
+// Lines of trials as they are read: a call on a picture, the report of a tree, or a question for an error's text.
 mod asking;
 mod trials;
 
@@ -22,17 +22,25 @@ pub enum Asked {
     Bad,
 }
 
-// What a call field asks for: a trap by its number, a pick, a tick, or a fresh picture of a size and a heap.
+// A call: a trap by its number, a pick, a tick, or a fresh picture of a size and a heap.
 pub enum Call {
     Trap(u32),
     Pick,
     Tick,
     Fresh(u32, u32),
+}
+
+// What a call field asks for: a call, the report of a tree, or nothing of the kind.
+pub enum Wanted {
+    Call(Call),
+    Report,
     Bad,
 }
 
-// A trial: its call, how many characters the call field has, and how many registers and longwords there are.
+// A trial: its call, how many characters the call field has, and how many registers and longwords there are;
+// or a report: its top's number, how many lines are lent, and how many longwords there are.
 pub enum Trial {
     Good(Call, usize, usize, usize),
+    Report(u32, usize, usize),
     Bad,
 }

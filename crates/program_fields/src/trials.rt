@@ -2,6 +2,7 @@ use crate::Call;
 use crate::Count;
 use crate::LONGEST_LINE;
 use crate::Trial;
+use crate::Wanted;
 use crate::asking;
 use program_digits::Read;
 ghost use Prim.Native.Nat.{_+_, _≤_};
@@ -14,38 +15,41 @@ const LONGEST_CALL: usize = 2002;
 // A longword stands at most 16,384 times in a row.
 const MOST_TIMES: u32 = 0x4000;
 
+// A report is lent at most 64 lines.
+const MOST_LINES: u32 = 64;
+
 // A fresh picture: its size and its heap, eight digits each.
-fn fresh_of(field: &[u8]) -> Call {
+fn fresh_of(field: &[u8]) -> Wanted {
     if field.len() != 18 {
-        return Call::Bad;
+        return Wanted::Bad;
     }
     let Read::Number(size) = program_digits::read_number(field, 2, 8) else {
-        return Call::Bad;
+        return Wanted::Bad;
     };
     let Read::Number(heap) = program_digits::read_number(field, 10, 8) else {
-        return Call::Bad;
+        return Wanted::Bad;
     };
-    Call::Fresh(size, heap)
+    Wanted::Call(Call::Fresh(size, heap))
 }
 
 // A trap and its name: digits in pairs.
-fn trap_of(trap: u32, field: &[u8]) -> Call {
+fn trap_of(trap: u32, field: &[u8]) -> Wanted {
     if LONGEST_CALL < field.len() {
-        return Call::Bad;
+        return Wanted::Bad;
     }
     if field.len() % 2 != 0 {
-        return Call::Bad;
+        return Wanted::Bad;
     }
     if program_digits::are_digits(field, 0, field.len()) {
-        return Call::Trap(trap);
+        return Wanted::Call(Call::Trap(trap));
     }
-    Call::Bad
+    Wanted::Bad
 }
 
 // What a call field asks for. A field of an error text, FE, is none of them.
-fn call_of(field: &[u8]) -> Call {
+fn call_of(field: &[u8]) -> Wanted {
     let Read::Number(first) = program_digits::read_number(field, 0, 2) else {
-        return Call::Bad;
+        return Wanted::Bad;
     };
     if first < 0xF0 {
         return trap_of(first, field);
@@ -54,12 +58,13 @@ fn call_of(field: &[u8]) -> Call {
         return fresh_of(field);
     }
     if field.len() != 2 {
-        return Call::Bad;
+        return Wanted::Bad;
     }
     match first {
-        0xF0 => Call::Pick,
-        0xF1 => Call::Tick,
-        _ => Call::Bad,
+        0xF0 => Wanted::Call(Call::Pick),
+        0xF1 => Wanted::Call(Call::Tick),
+        0xF2 => Wanted::Report,
+        _ => Wanted::Bad,
     }
 }
 
@@ -190,10 +195,36 @@ fn read_picture(p: &mut [u32], field: &[u8]) -> Count
     read_longwords(p, field)
 }
 
+// The trial of a report over a picture of so many longwords: its registers are two, the top's number and how many lines are lent.
+fn report_of(registers: &[u32], size: usize) -> Trial
+    ensures { λ r. ⌜ Fitting r 0 0 size ⌝ }
+{
+    if registers.len() != 2 {
+        return Trial::Bad;
+    }
+    let top = registers[0];
+    let lent = registers[1];
+    if MOST_LINES < lent {
+        return Trial::Bad;
+    }
+    Trial::Report(top, lent as usize, size)
+}
+
+// The trial of what a call field of so many characters asks for, over its registers and a picture of so many longwords.
+fn trial_of(wanted: Wanted, characters: usize, registers: &[u32], size: usize) -> Trial
+    ensures { λ r. ⌜ Fitting r characters (length (now (registers .entry))) size ⌝ }
+{
+    match wanted {
+        Wanted::Call(call) => Trial::Good(call, characters, registers.len(), size),
+        Wanted::Report => report_of(registers, size),
+        Wanted::Bad => Trial::Bad,
+    }
+}
+
 // Reads the fields behind a call field.
 fn read_rest(
     p: &mut [u32],
-    call: Call,
+    wanted: Wanted,
     characters: usize,
     rest: &[u8],
     registers: &mut [u32],
@@ -211,10 +242,10 @@ fn read_rest(
     let Count::Of(size) = read_picture(p, &rest[last..]) else {
         return Trial::Bad;
     };
-    Trial::Good(call, characters, count, size)
+    trial_of(wanted, characters, &registers[..count], size)
 }
 
-// Reads a line: its call, its registers and its picture. A name stays in the call field.
+// Reads a line: what it asks for, its registers and its picture. A name stays in the call field.
 pub fn read_trial(p: &mut [u32], line: &[u8], registers: &mut [u32]) -> Trial
     ensures { λ r. ⌜ Fitting r (length (now (line .entry))) (length (now (registers .entry))) (length (now (p .entry))) ⌝ }
 {
@@ -226,9 +257,6 @@ pub fn read_trial(p: &mut [u32], line: &[u8], registers: &mut [u32]) -> Trial
         return Trial::Bad;
     }
     let next = first + 1;
-    let call = call_of(&line[..first]);
-    if let Call::Bad = call {
-        return Trial::Bad;
-    }
-    read_rest(p, call, first, &line[next..], registers)
+    let wanted = call_of(&line[..first]);
+    read_rest(p, wanted, first, &line[next..], registers)
 }

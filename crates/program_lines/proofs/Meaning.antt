@@ -11,8 +11,8 @@ use lib.ListN.{length}
 use Rattle.program_digits.specs.Digits.{pick, digits, number, numbers}
 use Rattle.program_digits.proofs.Reader.{length-numbers}
 use Rattle.program_lines.specs.declared.Line.{Line}
-use Rattle.program_lines.specs.declared.Line.the-variants.{Bad, Pick, Tick, Trap}
-use Rattle.program_lines.specs.Frames.{Frame, bad, picks, ticks, traps, alone, trapped, called, frame, kind-of, registers-of, name-of, Told}
+use Rattle.program_lines.specs.declared.Line.the-variants.{Bad, Pick, Tick, Report, Trap}
+use Rattle.program_lines.specs.Frames.{Frame, bad, picks, ticks, reports, traps, alone, reported, trapped, called, frame, kind-of, registers-of, name-of, Told}
 
 -- what is read of one frame is read of an equal one
 pub told-as : (f g : Frame) (r : Line) (a b c d : List ℕ) → f ≡ g → Told g r a b c d → Told f r a b c d
@@ -62,9 +62,32 @@ module _ (n : ℕ) (s : List ℕ) where
   unfolding called alone
   tick-left-over e m = rw (ne-eqb n 240 (λ z. omega arith), eq-eqb n 241 e, ne-eqb (length s) 2 m)
 
-  pub trap-called : n ≢ 0xF0 → n ≢ 0xF1 → called n s ≡ trapped n s
+  pub report-called : n ≡ 0xF2 → called n s ≡ reported s
   unfolding called
-  trap-called e f = rw (ne-eqb n 240 e, ne-eqb n 241 f)
+  report-called e = rw (ne-eqb n 240 (λ z. omega arith), ne-eqb n 241 (λ z. omega arith), eq-eqb n 242 e)
+
+  pub trap-called : n ≢ 0xF0 → n ≢ 0xF1 → n ≢ 0xF2 → called n s ≡ trapped n s
+  unfolding called
+  trap-called e f g = rw (ne-eqb n 240 e, ne-eqb n 241 f, ne-eqb n 242 g)
+
+-- a report is read, whole or left over
+module _ (s : List ℕ) where
+  pub report-left-over : length s ≢ 10 → Bad ≡ kind-of (reported s)
+  unfolding reported
+  report-left-over e = rw (ne-eqb (length s) 10 e)
+
+  pub report-whole : length s ≡ 10 → (n : ℕ) → n ≡ number s 2 8 → Report n ≡ kind-of (reported s)
+  unfolding reported
+  report-whole e n f = rw (eq-eqb (length s) 10 e, f)
+
+  -- and leaves the rooms
+  pub told-report : (f : Frame) (r : Line) (a b : List ℕ) → f ≡ reported s → r ≡ kind-of (reported s) → Told f r a b a b
+  unfolding reported
+  told-report f r a b e k = told-as f (reported s) r a b a b e (go (eqb (length s) 10) refl)
+    where
+      go : (t : Bool) → eqb (length s) 10 ≡ t → Told (reported s) r a b a b
+      go true z = record { kind = k; registers = rw z; name = rw z }
+      go false z = record { kind = k; registers = rw z; name = rw z }
 
 module _ (s : List ℕ) where
   pub empty-bad : length s ≡ 0 → frame s ≡ bad
@@ -92,6 +115,7 @@ abbrev Sized : Frame → Type 0
 Sized bad = Unit {0}
 Sized picks = Unit {0}
 Sized ticks = Unit {0}
+Sized (reports n) = Unit {0}
 Sized (traps n registers name) = (length registers ≡ 8) × (length name ≤ 223)
 
 record Fits (f : Frame) : Type 0 where
@@ -102,7 +126,7 @@ fits-pick true h k = h
 fits-pick false h k = k
 
 fits-frame : (s : List ℕ) → Fits (frame s)
-unfolding frame called alone trapped
+unfolding frame called alone reported trapped
 fits-frame s = fits-pick (eqb (length s) 0) {f = bad} (record { sized = tt }) (go (ltb 512 (length s)) refl)
   where
     n : ℕ
@@ -117,11 +141,13 @@ fits-frame s = fits-pick (eqb (length s) 0) {f = bad} (record { sized = tt }) (g
         let lone : Fits bad = record { sized = tt } in
         let picked : Fits picks = record { sized = tt } in
         let ticked : Fits ticks = record { sized = tt } in
+        let told : Fits (reports (number s 2 8)) = record { sized = tt } in
         fits-pick (eqb (length s % 2) 1) lone
         (fits-pick (digits s 0 (length s))
         (fits-pick (eqb n 240) (fits-pick (eqb (length s) 2) picked lone)
         (fits-pick (eqb n 241) (fits-pick (eqb (length s) 2) ticked lone)
-        (fits-pick (ltb (length s) 66) lone (fits-pick (eqb n 2) named (fits-pick (eqb (length s) 66) whole lone)))))
+        (fits-pick (eqb n 242) (fits-pick (eqb (length s) 10) told lone)
+        (fits-pick (ltb (length s) 66) lone (fits-pick (eqb n 2) named (fits-pick (eqb (length s) 66) whole lone))))))
         lone)
 
 -- the frame of a line of this kind with these registers and this name
@@ -129,6 +155,7 @@ abbrev pub framed : Line → List ℕ → List ℕ → Frame
 framed Bad registers name = bad
 framed Pick registers name = picks
 framed Tick registers name = ticks
+framed (Report n) registers name = reports n
 framed (Trap n k) registers name = traps n registers name
 
 -- a frame is that of its kind
@@ -136,6 +163,7 @@ as-framed : (f : Frame) → f ≡ framed (kind-of f) (registers-of f) (name-of f
 as-framed bad = refl
 as-framed picks = refl
 as-framed ticks = refl
+as-framed (reports n) = refl
 as-framed (traps n registers name) = refl
 
 pub kind-says : (f : Frame) (r : Line) → kind-of f ≡ r → f ≡ framed r (registers-of f) (name-of f)
@@ -146,12 +174,14 @@ abbrev told-bytes : Line → ℕ
 told-bytes Bad = 0
 told-bytes Pick = 0
 told-bytes Tick = 0
+told-bytes (Report n) = 0
 told-bytes (Trap n k) = k
 
 names-bytes : (f : Frame) → told-bytes (kind-of f) ≡ length (name-of f)
 names-bytes bad = refl
 names-bytes picks = refl
 names-bytes ticks = refl
+names-bytes (reports n) = refl
 names-bytes (traps n registers name) = refl
 
 -- a frame is the trap n with eight registers and a name of k bytes

@@ -7,13 +7,16 @@ ghost use mathlib.Core.Path.{_≡_};
 ghost use mathlib.Core.Bool.{true};
 ghost use lib.ListN.{length};
 ghost use Rattle.program_digits.specs.Digits.{digits};
-ghost use Rattle.program_lines.specs.Frames.{frame, trapped, Told};
+ghost use Rattle.program_lines.specs.Frames.{frame, trapped, reported, kind-of as kindOf, Told};
 
 // The most characters that a line may have.
 const LONGEST: usize = 512;
 
 // A trap's number and its eight registers, in digits.
 const TRAP: usize = 66;
+
+// F2 and the top's number, in digits.
+const REPORT: usize = 10;
 
 // Reads a trap by its number from a line of digits: its registers, and the name's bytes of trap 2.
 fn read_trap(trap: u32, line: &[u8], registers: &mut [u32], name: &mut [u8]) -> Line
@@ -34,6 +37,17 @@ fn read_trap(trap: u32, line: &[u8], registers: &mut [u32], name: &mut [u8]) -> 
     }
     read_words(line, 2, 8, registers);
     Line::Trap(trap, 0)
+}
+
+// Reads a report from a line of digits that begins with F2: the top's number.
+fn read_report(line: &[u8]) -> Line
+    requires { ⌜ digits (now line) 0 (length (now line)) ≡ true ⌝ }
+    ensures { λ r. ⌜ r ≡ kindOf (reported (now (line .entry))) ⌝ }
+{
+    if line.len() != REPORT {
+        return Line::Bad;
+    }
+    Line::Report(number_at(line, 2, 8))
 }
 
 // Reads a line: its kind, its registers and its name.
@@ -64,6 +78,9 @@ pub fn read_line(line: &[u8], registers: &mut [u32], name: &mut [u8]) -> Line
             return Line::Tick;
         }
         return Line::Bad;
+    }
+    if first == 0xF2 {
+        return read_report(line);
     }
     read_trap(first, line, registers, name)
 }

@@ -6,10 +6,11 @@ pub use feeds::keep;
 pub use feeds::line_end;
 pub use frames::read_line;
 
-// What a line of a session asks for: nothing good, a pick, a tick, or a trap by its number, with how many bytes of name.
+// What a line of a session asks for: nothing good, a pick, a tick, the report of the tree of a job by its number, or a trap by its number, with how many bytes of name.
 pub enum Line {
     Bad,
     Pick,
     Tick,
+    Report(u32),
     Trap(u32, usize),
 }

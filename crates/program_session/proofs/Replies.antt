@@ -1,17 +1,19 @@
 -- Replies as they stand in the registers' room. Assumes nothing.
-use Prim.Native.Nat.{ℕ, _+_, _≤_, min}
+use Prim.Native.Nat.{ℕ, _≤_}
 use mathlib.Core.Path.{_≡_, refl, sym, ap, subst, _∙_}
-use mathlib.Core.List.{List, [], _++_}
+use mathlib.Core.List.{List, [], _∷_, _++_}
 use native.Mathlib.Omega.{arith}
 use native.Mathlib.Nat.{zero-add}
 use lib.IntN.{ℤ}
-use lib.ListN.{length, take, drop, length-take, drop-of-length-le}
+use lib.ListN.{length, take, drop, drop-of-length-le}
 use lib.Seq.{sets, sets-eq, length-sets, take-all, take-append-seam, drop-append-seam}
 use Rattle.calls.specs.Outcome.{Meets}
 use Rattle.manager.specs.Door.{called}
-use Rattle.program_lines.specs.Frames.{Frame, traps, registers-of, name-of}
+use Rattle.program_session.specs.declared.Answer.{Answer}
+use Rattle.program_session.specs.declared.Answer.the-variants.{Longwords, Report}
+use Rattle.program_lines.specs.Frames.{Frame, reports, registers-of, name-of}
 use Rattle.program_lines.proofs.Meaning.{Trapped}
-use Rattle.program_session.specs.Reply.{Reply, reply, Replied}
+use Rattle.program_session.specs.Reply.{one-line, reply, Replied, Comes}
 
 -- longwords or bytes put at the start of a room are the first of it, and behind them it is as it was
 in-room : (a v : List ℕ) → length v ≤ length a → sets a 0 v ≡ v ++ drop (length v) a
@@ -28,14 +30,8 @@ pub all-of : (a v : List ℕ) → length v ≡ length a → sets a 0 v ≡ v
 all-of a v e = sym (take-all (length v) (sets a 0 v) (rw (length-sets a 0 v) (omega arith))) ∙ first-of a v (omega arith)
 
 -- a reply put at the start of a room is given
-pub put-there : (y : Reply) (a : List ℕ) → length (y .longwords) ≤ length a → Replied y (length (y .longwords)) (y .picture) a (sets a 0 (y .longwords))
-put-there y a l = record { counts = refl; leaves = refl; gives = first-of a (y .longwords) l; keeps = rest-of a (y .longwords) l }
-
--- a reply has no more longwords than its room
-pub within : (y : Reply) (r : ℕ) (q a d : List ℕ) → Replied y r q a d → r ≤ length d
-within y r q a d h =
-    let e : min r (length d) ≡ r = sym (length-take r d) ∙ ap length (h .gives) ∙ sym (h .counts) in
-    omega arith
+pub put-there : (ws q a : List ℕ) → length ws ≤ length a → Replied (one-line ws q) (length ws) q a (sets a 0 ws)
+put-there ws q a l = record { counts = rw (length-sets a 0 ws) l; leaves = refl; gives = ap (λ (vs : List ℕ). vs ∷ []) (sym (first-of a ws l)); keeps = rest-of a ws l }
 
 -- a line without registers leaves its room, and its reply is that of its kind
 pub lone-replied : (f g : Frame) (r : ℕ) (p q a b d : List ℕ) → f ≡ g → registers-of g ≡ [] → b ≡ sets a 0 (registers-of f) → Replied (reply g p) r q b d → Replied (reply f p) r q a d
@@ -54,4 +50,12 @@ trap-replied f n k p a b q d r t x y m l =
     let w : take k (sets b 0 (name-of f)) ≡ name-of f = ap (λ (i : ℕ). take i (sets b 0 (name-of f))) (sym z) ∙ first-of b (name-of f) (omega arith) in
     let o : Meets (called n p (registers-of f) (name-of f)) r q d = rw (g, w) at m in
     subst (λ (h : Frame). Replied (reply h p) 8 q a d) (sym (t .is))
-    (record { counts = sym l ∙ ap length (o .gives); leaves = o .leaves; gives = take-all 8 d (omega arith) ∙ o .gives; keeps = drop-of-length-le d {i = 8} (omega arith) ∙ sym (drop-of-length-le a {i = 8} (omega arith)) })
+    (record { counts = omega arith; leaves = o .leaves; gives = ap (λ (vs : List ℕ). vs ∷ []) (sym (take-all 8 d (omega arith) ∙ o .gives)); keeps = drop-of-length-le d {i = 8} (omega arith) ∙ sym (drop-of-length-le a {i = 8} (omega arith)) })
+
+-- what a frame comes to, by its answer
+module _ (f : Frame) (p q a d : List ℕ) (x : Answer) (h : Comes f p x q a d) where
+  pub comes-longwords : (r : ℕ) → x ≡ Longwords r → Replied (reply f p) r q a d
+  comes-longwords r e = subst (λ (y : Answer). Comes f p y q a d) e h
+
+  pub comes-report : (top : ℕ) → x ≡ Report top → (f ≡ reports top) × (q ≡ p)
+  comes-report top e = subst (λ (y : Answer). Comes f p y q a d) e h

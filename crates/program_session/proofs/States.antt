@@ -8,7 +8,7 @@ use lib.Dec.{eqb}
 use lib.ListN.{length, take}
 use lib.Seq.{take-take, append-snoc}
 use Rattle.program_digits.specs.Digits.{pick}
-use Rattle.program_writing.specs.Texts.{answer-text}
+use Rattle.program_writing.specs.Texts.{answers-text}
 use Rattle.program_lines.specs.Frames.{Frame, frame}
 use Rattle.program_lines.specs.Feeds.{before-feed}
 use Rattle.program_lines.proofs.Kept.{frame-kept, kept-more}
@@ -86,7 +86,7 @@ module _ (s t : List ℕ) (e : take most-kept s ≡ take most-kept t) (p : List 
 
   pub same-text : line-text s p ≡ line-text t p
   unfolding line-text
-  same-text = ap (λ (f : Frame). answer-text (reply f p .longwords)) same-frame
+  same-text = ap (λ (f : Frame). answers-text (reply f p .lines)) same-frame
 
   pub same-picture : line-picture s p ≡ line-picture t p
   unfolding line-picture

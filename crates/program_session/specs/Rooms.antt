@@ -3,6 +3,7 @@ use Prim.Native.Nat.{ℕ, _+_, _%_, _^_, _≤_, _<_}
 use mathlib.Core.Path.{_≡_}
 use mathlib.Core.List.{List, _++_}
 use lib.ListN.{length, take}
+use Rattle.program_reports.specs.Reports.{longest-report}
 use Rattle.program_pieces.specs.declared.Kept.{Kept}
 use Rattle.program_pieces.specs.declared.Kept.the-variants.{Characters, Unwritten}
 use Rattle.program_session.specs.Session.{line-text, line-picture}
@@ -12,9 +13,9 @@ use Rattle.program_session.specs.Pieces.{State, start, after, gives, las
 abbrev pub most-kept : ℕ
 most-kept = 513
 
--- an answer has at most eight longwords, of eight digits each, and a line feed
+-- the longest answer is a report: an answer of one line has at most eight longwords of eight digits, and a line feed
 abbrev pub longest-answer : ℕ
-longest-answer = 65
+longest-answer = longest-report
 
 -- the rooms for the line and for the output have these lengths
 pub record Roomy (line out : List ℕ) : Type 0 where

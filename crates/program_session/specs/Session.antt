@@ -1,10 +1,10 @@
--- Document 01, the session program (rules 108, 111 and 112): the whole output as a function of the whole input.
+-- Document 01, the session program (rules 113, 116 and 117): the whole output as a function of the whole input.
 use Prim.Native.Nat.{ℕ}
 use mathlib.Core.List.{List, [], _∷_, _++_}
 use lib.Dec.{eqb}
 use Rattle.fresh.specs.Fresh.{fresh}
 use Rattle.program_digits.specs.Digits.{pick}
-use Rattle.program_writing.specs.Texts.{answer-text}
+use Rattle.program_writing.specs.Texts.{answers-text}
 use Rattle.program_lines.specs.Frames.{frame}
 use Rattle.program_session.specs.Reply.{reply}
 
@@ -18,9 +18,9 @@ first-heap = 256
 unfoldable pub first-picture : List ℕ
 first-picture = fresh first-size first-heap
 
--- what a line gives on a picture, as it is written: the longwords of its reply "in capitals", and a line feed
+-- what a line gives on a picture, as it is written: each line of its reply, its longwords "in capitals" and a line feed
 unfoldable pub line-text : List ℕ → List ℕ → List ℕ
-line-text line p = answer-text (reply (frame line) p .longwords)
+line-text line p = answers-text (reply (frame line) p .lines)
 
 -- the picture that a line leaves
 unfoldable pub line-picture : List ℕ → List ℕ → List ℕ

@@ -1,3 +1,4 @@
+use crate::Answer;
 use crate::room;
 use program_lines::Line;
 ghost use mathlib.Core.Path.{_≡_};
@@ -5,7 +6,7 @@ ghost use mathlib.Core.List.{List};
 ghost use Prim.Native.Nat.{ℕ};
 ghost use lib.ListN.{length};
 ghost use Rattle.program_lines.specs.Frames.{bad, picks, ticks, frame};
-ghost use Rattle.program_session.specs.Reply.{reply, Replied};
+ghost use Rattle.program_session.specs.Reply.{reply, Replied, Comes};
 
 // A bad line gives its key alone, whatever the picture.
 fn refuse(registers: &mut [u32]) -> usize
@@ -37,19 +38,20 @@ fn tick(p: &mut [u32], registers: &mut [u32]) -> usize
     1
 }
 
-// Does what a line asks for. Its reply stands in the registers' room, and the answer is how many longwords it has.
-pub fn answer(p: &mut [u32], line: &[u8], registers: &mut [u32]) -> usize
+// Does what a line asks for. A reply of one line stands in the registers' room.
+pub fn answer(p: &mut [u32], line: &[u8], registers: &mut [u32]) -> Answer
     requires { ⌜ 8 ≡ length (now registers) ⌝ }
-    ensures { λ r. ⌜ Replied (reply (frame (now (line .entry))) (now (p .entry))) r (now (p .exit)) (now (registers .entry)) (now (registers .exit)) ⌝ }
+    ensures { λ r. ⌜ Comes (frame (now (line .entry))) (now (p .entry)) r (now (p .exit)) (now (registers .entry)) (now (registers .exit)) ⌝ }
 {
     let mut name = room::name_room();
     match program_lines::read_line(line, registers, &mut name) {
-        Line::Bad => refuse(registers),
-        Line::Pick => pick(p, registers),
-        Line::Tick => tick(p, registers),
+        Line::Bad => Answer::Longwords(refuse(registers)),
+        Line::Pick => Answer::Longwords(pick(p, registers)),
+        Line::Tick => Answer::Longwords(tick(p, registers)),
+        Line::Report(top) => Answer::Report(top),
         Line::Trap(trap, count) => {
             manager::call(p, trap, registers, &name[..count]);
-            calls::REGISTERS
+            Answer::Longwords(calls::REGISTERS)
         }
     }
 }

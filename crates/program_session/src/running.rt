@@ -1,3 +1,4 @@
+use crate::Answer;
 use crate::Progress;
 use crate::answering;
 use crate::room;
@@ -11,8 +12,8 @@ ghost use Rattle.program_session.specs.Session.{first-picture as firstPi
 ghost use Rattle.program_session.specs.Pieces.{with-line as withLine};
 ghost use Rattle.program_session.specs.Rooms.{longest-answer as longestAnswer, counted, Roomy, Answered, Taken, TakenAll, Ended, Known, Given, Reached};
 
-// The most characters that an answer has.
-const LONGEST_ANSWER: usize = 65;
+// The most characters that an answer has: a line of 41 for each position.
+const LONGEST_ANSWER: usize = 41 * picture::JOBS;
 
 // Says that the input failed.
 fn say_unread() {
@@ -30,8 +31,10 @@ fn answer_line(p: &mut [u32], line: &[u8], out: &mut [u8], used: usize) -> usize
     ensures { λ r. ⌜ Answered (now (line .entry)) (now (p .entry)) (now (p .exit)) (now (out .entry)) used (now (out .exit)) r ⌝ }
 {
     let mut registers = room::registers_room();
-    let count = answering::answer(p, line, &mut registers);
-    program_writing::write_answer(out, used, &registers[..count])
+    match answering::answer(p, line, &mut registers) {
+        Answer::Longwords(count) => program_writing::write_answer(out, used, &registers[..count]),
+        Answer::Report(top) => program_reports::write_report(p, top, out, used),
+    }
 }
 
 // Answers the line that a part of a chunk ends, straight from the chunk where nothing of it is kept.

@@ -1,5 +1,6 @@
-// Trials: one call on any picture and registers a line, and what it answers and changes.
+// Trials: one call on any picture and registers a line, and what it answers and changes; or one report of a tree, and the lines that were lent to it.
 mod report;
+mod reporting;
 mod room;
 mod running;
 mod telling;

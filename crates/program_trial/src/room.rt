@@ -15,11 +15,11 @@ pub fn answer_room() -> [u8; 300010]
     [0; 300010]
 }
 
-// Room for a picture.
-pub fn picture_room() -> [u32; 16384]
-    ensures { λ r. ⌜ 16384 ≡ length r ⌝ }
+// Room for a picture: some more longwords than the greatest has.
+pub fn picture_room() -> [u32; 16400]
+    ensures { λ r. ⌜ 16400 ≡ length r ⌝ }
 {
-    [0; 16384]
+    [0; 16400]
 }
 
 // Room for registers: twice as many as a call takes.

@@ -1,5 +1,6 @@
 use crate::Answer;
 use crate::report;
+use crate::reporting;
 use crate::room;
 use crate::telling;
 use program_fields::Call;
@@ -38,7 +39,6 @@ fn make_call(p: &mut [u32], call: Call, registers: &mut [u32], field: &[u8]) -> 
         Call::Pick => make_pick(p),
         Call::Tick => answer_of(manager::tick(p)),
         Call::Fresh(size, heap) => answer_of(manager::fresh(p, size, heap)),
-        Call::Bad => answer_of(-15),
     }
 }
 
@@ -65,7 +65,7 @@ fn try_call(
     report::write_answer(p, &before, answer, registers, out)
 }
 
-// Answers a line that asks for a call.
+// Answers a line that asks for a call or a report.
 pub fn answer_call(line: &[u8], out: &mut [u8]) -> usize {
     let mut p = room::picture_room();
     let mut registers = room::registers_room();
@@ -77,6 +77,7 @@ pub fn answer_call(line: &[u8], out: &mut [u8]) -> usize {
             &line[..first],
             out,
         ),
+        Trial::Report(top, lent, size) => reporting::answer_report(&p[..size], top, lent, out),
         Trial::Bad => telling::write_refusal(out),
     }
 }

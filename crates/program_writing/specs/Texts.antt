@@ -1,4 +1,4 @@
--- Hexadecimal as it is written (rule 112): capitals, by itself and at a place of a text that is lent.
+-- Hexadecimal as it is written (rule 117): capitals, by itself and at a place of a text that is lent.
 use Prim.Native.Nat.{ℕ, zero, suc, _+_, _*_, _/_, _%_}
 use mathlib.Core.Bool.{Bool}
 use mathlib.Core.List.{List, [], _∷_, _++_}
@@ -23,6 +23,11 @@ spelled-words (x ∷ xs) = spelled 8 x ++ spelled-words xs
 -- an answer: words and a line feed
 unfoldable pub answer-text : List ℕ → List ℕ
 answer-text xs = spelled-words xs ++ 10 ∷ []
+
+-- answers, one after the other
+unfoldable pub answers-text : List (List ℕ) → List ℕ
+answers-text [] = []
+answers-text (xs ∷ rest) = answer-text xs ++ answers-text rest
 
 -- n characters from place i on lie in the text
 abbrev pub fits : List ℕ → ℕ → ℕ → Bool

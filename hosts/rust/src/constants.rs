@@ -42,6 +42,7 @@ pub const NOT_COMPLETE: i32 = -1;
 pub const INVALID_JOB: i32 = -2;
 pub const OUT_OF_MEMORY: i32 = -3;
 pub const OUT_OF_RANGE: i32 = -4;
+pub const BUFFER_OVERFLOW: i32 = -5;
 pub const CHANNEL_NOT_OPEN: i32 = -6;
 pub const NOT_FOUND: i32 = -7;
 pub const BAD_NAME: i32 = -12;
@@ -94,3 +95,11 @@ pub const HOLD: u32 = 8_191;
 pub const GREATEST_TIMEOUT: i16 = 32_767;
 /// The timeout without end.
 pub const WITHOUT_END: i16 = -1;
+
+// The longwords of a job's line in a report, by their index.
+pub const LINE_NUMBER: usize = 0;
+pub const LINE_OWNER: usize = 1;
+pub const LINE_DEPTH: usize = 2;
+pub const LINE_PRIORITY: usize = 3;
+pub const LINE_SUSPENDED: usize = 4;
+pub const LINE_LONGWORDS: usize = 5;

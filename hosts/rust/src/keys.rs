@@ -23,6 +23,8 @@ impl Key {
     pub const OUT_OF_MEMORY: Key = Key(constants::OUT_OF_MEMORY);
     /// A fresh picture's sizes are bad.
     pub const OUT_OF_RANGE: Key = Key(constants::OUT_OF_RANGE);
+    /// A table has fewer lines than the tree that is to be reported has jobs.
+    pub const BUFFER_OVERFLOW: Key = Key(constants::BUFFER_OVERFLOW);
     /// No such channel; channel positions or tags are used up.
     pub const CHANNEL_NOT_OPEN: Key = Key(constants::CHANNEL_NOT_OPEN);
     /// The name isn't PIPE; there is no such error text.
@@ -70,6 +72,7 @@ impl fmt::Debug for Key {
             Key::INVALID_JOB => "INVALID_JOB",
             Key::OUT_OF_MEMORY => "OUT_OF_MEMORY",
             Key::OUT_OF_RANGE => "OUT_OF_RANGE",
+            Key::BUFFER_OVERFLOW => "BUFFER_OVERFLOW",
             Key::CHANNEL_NOT_OPEN => "CHANNEL_NOT_OPEN",
             Key::NOT_FOUND => "NOT_FOUND",
             Key::BAD_NAME => "BAD_NAME",

@@ -14,6 +14,14 @@ mod archive {
         ) -> i32;
         pub fn krowjyvan_pick(picture: *mut u32, length: usize, number: *mut u32) -> i32;
         pub fn krowjyvan_tick(picture: *mut u32, length: usize) -> i32;
+        pub fn krowjyvan_report_tree(
+            picture: *const u32,
+            length: usize,
+            top: u32,
+            table: *mut u32,
+            table_length: usize,
+            count: *mut usize,
+        ) -> i32;
         pub fn krowjyvan_error_text(
             key: i32,
             system: *const u8,
@@ -27,7 +35,8 @@ mod archive {
 }
 
 // Each call below lends slices with their own lengths, and nothing of them is kept. One that is written is a `&mut`, which
-// overlaps nothing else. That is all that the archive asks (krowjyvan.h, "What you must see to").
+// overlaps nothing else and is lent to nobody else; a picture that is only read may be lent to several reports at once. That is
+// all that the archive asks (krowjyvan.h, "What you must see to").
 
 /// Makes the slice, whose length is to be `n`, a fresh picture of `n` longwords, `h` of them the heap.
 pub fn fresh(picture: &mut [u32], n: u32, h: u32) -> i32 {
@@ -64,6 +73,24 @@ pub fn pick(picture: &mut [u32]) -> (u32, i32) {
 pub fn tick(picture: &mut [u32]) -> i32 {
     // SAFETY: as said above.
     unsafe { archive::krowjyvan_tick(picture.as_mut_ptr(), picture.len()) }
+}
+
+/// The key of a report of the tree of the job `top`, and how many lines of the table were written, 0 with a refusal. A line
+/// is [`crate::constants::LINE_LONGWORDS`] longwords; what stands behind the written ones stays.
+pub fn report_tree(picture: &[u32], top: u32, table: &mut [u32]) -> (i32, usize) {
+    let mut count = 0;
+    // SAFETY: as said above; `count` is this function's own.
+    let key = unsafe {
+        archive::krowjyvan_report_tree(
+            picture.as_ptr(),
+            picture.len(),
+            top,
+            table.as_mut_ptr(),
+            table.len(),
+            &mut count,
+        )
+    };
+    (key, count)
 }
 
 /// The key of an error's text, and the text: a part of the driver's where the key asked about is positive, else of the

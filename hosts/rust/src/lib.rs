@@ -2,7 +2,8 @@
 //! ("channels") and whose turn it is, behind the calls of the Sinclair QL's operating system.
 //!
 //! A [`Picture`] owns all that the manager knows. Its methods are the calls, under the names of the QL Technical Guide;
-//! a refusal is a [`Key`], and changes nothing. [`Picture::trap`] takes raw registers, and [`lent`] plain slices.
+//! a refusal is a [`Key`], and changes nothing. [`Picture::report_tree`] tells of every job of a tree at once.
+//! [`Picture::trap`] takes raw registers, and [`lent`] plain slices.
 //!
 //! Every call is made by the current job, the one that the last [`Picture::pick`] chose; in a fresh picture that is job
 //! 0. Where nobody is current, a call is refused by [`Key::INVALID_JOB`]. Some calls leave nobody current when they are
@@ -40,4 +41,4 @@ mod picture;
 
 pub use keys::{error_text, Key, SYSTEM_TEXT};
 pub use numbers::{ChannelNumber, JobNumber};
-pub use picture::{Created, Information, JobInformation, Picked, Picture, Record, Registers, Room};
+pub use picture::{Created, Information, JobInformation, JobLine, Picked, Picture, Record, Registers, Room};

@@ -50,7 +50,7 @@ impl JobNumber {
     /// The job that is always there.
     pub const ZERO: JobNumber = JobNumber(0);
     /// Means the current job in every call, but as the owner of [`crate::Picture::mt_cjob`] and the top of
-    /// [`crate::Picture::mt_jinf`], where it names no job.
+    /// [`crate::Picture::mt_jinf`] and [`crate::Picture::report_tree`], where it names no job.
     pub const CURRENT: JobNumber = JobNumber(CURRENT_JOB);
 
     /// The job that a longword of the picture or a register names, or none where it holds the number for nobody.

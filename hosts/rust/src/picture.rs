@@ -49,6 +49,34 @@ pub struct JobInformation {
     pub first_byte: u32,
 }
 
+/// What [`Picture::report_tree`] tells of a job.
+#[derive(Clone, Copy, PartialEq, Eq, Hash, Debug)]
+pub struct JobLine {
+    /// The job.
+    pub number: JobNumber,
+    /// Its owner, or none.
+    pub owner: Option<JobNumber>,
+    /// How far below the top it is: 0 for the top, 1 for a job that the top owns, 2 for one that such a job owns, and so on.
+    pub depth: u32,
+    /// Its priority, 0 where it isn't active.
+    pub priority: u8,
+    /// Whether it is suspended.
+    pub suspended: bool,
+}
+
+impl JobLine {
+    /// The line that the longwords of a table's line are.
+    fn read(longwords: &[u32]) -> JobLine {
+        JobLine {
+            number: JobNumber(longwords[LINE_NUMBER]),
+            owner: JobNumber::named(longwords[LINE_OWNER]),
+            depth: longwords[LINE_DEPTH],
+            priority: longwords[LINE_PRIORITY] as u8,
+            suspended: longwords[LINE_SUSPENDED] != 0,
+        }
+    }
+}
+
 /// What the calls that change a job's turns answer.
 #[derive(Clone, Copy, PartialEq, Eq, Hash, Debug)]
 pub struct Record {
@@ -188,6 +216,18 @@ impl Picture {
     /// [`Key::NOT_SOUND`] is the only refusal.
     pub fn tick(&mut self) -> Result<(), Key> {
         Key::check(lent::tick(&mut self.longwords))
+    }
+
+    /// Tells of each job in the tree of the top, by rising tag: so of the top first, and of every other behind its owner.
+    /// Nobody needs to be current.
+    ///
+    /// [`Key::INVALID_JOB`] where the top isn't live; [`Key::NOT_SOUND`].
+    pub fn report_tree(&self, top: JobNumber) -> Result<Vec<JobLine>, Key> {
+        // No tree has more jobs than there are positions, so the table is long enough.
+        let mut table = [0; JOBS * LINE_LONGWORDS];
+        let (key, count) = lent::report_tree(&self.longwords, top.0, &mut table);
+        Key::check(key)?;
+        Ok(table.chunks_exact(LINE_LONGWORDS).take(count).map(JobLine::read).collect())
     }
 
     /// MT.INF: the current job and the version.

@@ -2,8 +2,8 @@
 
 use krowjyvan::constants::*;
 use krowjyvan::{
-    error_text, lent, ChannelNumber, Created, Information, JobInformation, JobNumber, Key, Picked, Picture, Record,
-    Registers, Room, SYSTEM_TEXT,
+    error_text, lent, ChannelNumber, Created, Information, JobInformation, JobLine, JobNumber, Key, Picked, Picture,
+    Record, Registers, Room, SYSTEM_TEXT,
 };
 
 fn hub() -> Picture {
@@ -140,6 +140,61 @@ fn turns() {
     assert_eq!(hub.pick(), Ok(Picked { job: None, key: 0 }));
 }
 
+/// A hub with a desk that has a helper, which is suspended, and with a job of nobody's.
+fn workshop() -> (Picture, [JobNumber; 3]) {
+    let mut hub = hub();
+    let desk = hub.mt_cjob(Some(JobNumber::ZERO), 0, 4, 0).unwrap().job;
+    let other = hub.mt_cjob(None, 0, 4, 0).unwrap().job;
+    hub.mt_activ(desk, 100, true).unwrap();
+    assert_eq!(hub.pick().unwrap().job, Some(desk));
+    let helper = hub.mt_cjob(Some(desk), 0, 4, 0).unwrap().job;
+    hub.mt_susjb(helper, 9).unwrap();
+    (hub, [desk, other, helper])
+}
+
+#[test]
+fn a_report_tells_of_each_job_of_a_tree() {
+    let (mut hub, [desk, other, helper]) = workshop();
+    let before = hub.clone();
+    let line = |number, owner, depth, priority, suspended| JobLine { number, owner, depth, priority, suspended };
+    let all = vec![
+        line(JobNumber::ZERO, None, 0, 32, true),
+        line(desk, Some(JobNumber::ZERO), 1, 100, false),
+        line(helper, Some(desk), 2, 0, true),
+    ];
+    assert_eq!((hub.current(), hub.report_tree(JobNumber::ZERO)), (None, Ok(all.clone())));
+    let below = vec![line(desk, Some(JobNumber::ZERO), 0, 100, false), line(helper, Some(desk), 1, 0, true)];
+    assert_eq!(hub.report_tree(desk), Ok(below));
+    assert_eq!(hub.report_tree(other), Ok(vec![line(other, None, 0, 0, false)]));
+    for dead in [JobNumber::CURRENT, JobNumber(desk.0 + TAG_WEIGHT), JobNumber(desk.0 | 0x8000), JobNumber(4)] {
+        assert_eq!(hub.report_tree(dead), Err(Key::INVALID_JOB));
+    }
+    assert_eq!(hub, before);
+    hub.pick().unwrap();
+    for (line, behind) in all.iter().zip(all.iter().skip(1).map(Some).chain([None])) {
+        let told = hub.mt_jinf(line.number, JobNumber::ZERO).unwrap();
+        assert_eq!(told.next, behind.map(|line| line.number));
+        assert_eq!((told.owner, told.priority, told.suspended), (line.owner, line.priority, line.suspended));
+    }
+}
+
+#[test]
+fn any_table_is_answered() {
+    let (hub, [desk, other, helper]) = workshop();
+    let desks = [desk.0, 0, 0, 100, 0, helper.0, desk.0, 1, 0, 1];
+    for length in 0..400 {
+        let mut table = vec![0xAAAA_AAAA; length];
+        let answer = lent::report_tree(hub.longwords(), desk.0, &mut table);
+        let written = if length < desks.len() { 0 } else { desks.len() };
+        assert_eq!(answer, if written == 0 { (BUFFER_OVERFLOW, 0) } else { (DONE, 2) });
+        assert_eq!(table[..written], desks[..written]);
+        assert!(table[written..].iter().all(|&longword| longword == 0xAAAA_AAAA));
+        assert_eq!(lent::report_tree(hub.longwords(), other.0 + TAG_WEIGHT, &mut table), (INVALID_JOB, 0));
+        assert_eq!(lent::report_tree(&[], 0, &mut table), (NOT_SOUND, 0));
+        assert_eq!(table[..written], desks[..written]);
+    }
+}
+
 #[test]
 fn a_wait_ends_with_the_key_of_the_removal() {
     let mut hub = hub();
@@ -226,6 +281,7 @@ fn any_longwords_are_answered() {
         assert_eq!(registers, [-16_i32 as u32, 1, 2, 3, 4, 5, 6, 7]);
         assert_eq!(picture.pick(), Err(Key::NOT_SOUND));
         assert_eq!(picture.tick(), Err(Key::NOT_SOUND));
+        assert_eq!(picture.report_tree(JobNumber::ZERO), Err(Key::NOT_SOUND));
         assert_eq!(picture.into_longwords(), longwords);
     }
     for (n, h) in [(0, 0), (1_024, 0), (1_024, 255), (1_023, 256), (u32::MAX, 256), (16_388, 256), (1_024, 632)] {
@@ -263,6 +319,7 @@ fn numbers_and_keys_show_themselves() {
     assert_eq!(Key::check(-99).unwrap_err().to_string(), "key -99");
     assert_eq!(Key::BAD_NAME.number(), -12);
     assert_eq!(format!("{:?} {:?}", Key::NOT_SOUND, Key::check(5)), "Key::NOT_SOUND (-16) Err(Key(5))");
+    assert_eq!(format!("{:?}", Key::check(-5)), "Err(Key::BUFFER_OVERFLOW (-5))");
 }
 
 #[test]
@@ -301,6 +358,17 @@ fn pictures_in_threads_of_their_own() {
         threads.into_iter().map(|thread| thread.join().unwrap()).collect()
     });
     assert!(hubs.iter().all(|hub| *hub == alone));
+}
+
+#[test]
+fn reports_of_one_picture_at_once() {
+    let (hub, _) = workshop();
+    let alone = hub.report_tree(JobNumber::ZERO);
+    std::thread::scope(|scope| {
+        for _ in 0..4 {
+            scope.spawn(|| (0..1_000).for_each(|_| assert_eq!(hub.report_tree(JobNumber::ZERO), alone)));
+        }
+    });
 }
 
 /// A few hundred calls.

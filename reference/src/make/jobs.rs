@@ -17,7 +17,7 @@ const CALLS: [Act; 9] = [
 ];
 
 /// Steps that grow trees.
-const TREE_MIX: &Mix = &[
+pub const TREE_MIX: &Mix = &[
     (Act::Create, 14),
     (Act::Activate, 14),
     (Act::Pick, 8),
@@ -52,7 +52,7 @@ fn call(maker: &mut Maker, world: &World, call: u32, d1: u32, d2: u32, d3: u32, 
 }
 
 /// A small family: job 0 owns a child, which owns a grandchild; an unowned job stands beside them. All are active.
-fn family() -> (World, u32, u32, u32) {
+pub fn family() -> (World, u32, u32, u32) {
     let mut world = World::new(1_024, 256);
     let child = world.create(true, 20);
     *world.job_field(child, job::PRIORITY) = 5;
@@ -168,7 +168,7 @@ fn tables_used_up(maker: &mut Maker) {
 }
 
 /// A tree in which each job owns the next, at positions in any order.
-fn deep(maker: &mut Maker, depth: usize, active: bool) -> World {
+pub fn deep(maker: &mut Maker, depth: usize, active: bool) -> World {
     let mut world = World::new(1_024, 128);
     let mut owner = 0;
     for _ in 0..depth {
@@ -181,7 +181,7 @@ fn deep(maker: &mut Maker, depth: usize, active: bool) -> World {
 }
 
 /// A tree whose tags don't rise with positions: jobs that stood there before have given theirs up one by one.
-fn shuffled(maker: &mut Maker, count: usize, falling: bool, chain: bool) -> World {
+pub fn shuffled(maker: &mut Maker, count: usize, falling: bool, chain: bool) -> World {
     let mut world = World::new(1_024, 128);
     let mut before: Vec<u32> = (0..count).map(|_| world.create(false, 4)).collect();
     if !falling {
@@ -199,7 +199,7 @@ fn shuffled(maker: &mut Maker, count: usize, falling: bool, chain: bool) -> Worl
 }
 
 /// A tree in which job 0, or its first child, owns all the others.
-fn wide(maker: &mut Maker, width: usize, below_child: bool, active: bool) -> World {
+pub fn wide(maker: &mut Maker, width: usize, below_child: bool, active: bool) -> World {
     let mut world = World::new(1_024, 128);
     let top = if below_child { world.create(true, 4) } else { 0 };
     for _ in 0..width - usize::from(below_child) {

@@ -6,6 +6,7 @@ pub(crate) mod damage;
 mod door;
 mod errors;
 mod jobs;
+mod reports;
 mod sessions;
 mod sound;
 mod turns;
@@ -14,7 +15,7 @@ pub(crate) mod world;
 use crate::hexadecimal::{write_byte, write_longword};
 use crate::keys::Key;
 use crate::random::Random;
-use crate::trial::{write_runs, ERROR_TEXT, FRESH, PICK, TICK};
+use crate::trial::{write_runs, ERROR_TEXT, FRESH, PICK, REPORT, TICK};
 
 pub use sessions::SessionKind;
 
@@ -28,10 +29,11 @@ pub enum TrialKind {
     Turns,
     Door,
     Errors,
+    Reports,
 }
 
 impl TrialKind {
-    pub const ALL: [TrialKind; 7] = [
+    pub const ALL: [TrialKind; 8] = [
         TrialKind::Sound,
         TrialKind::Blocks,
         TrialKind::Jobs,
@@ -39,6 +41,7 @@ impl TrialKind {
         TrialKind::Turns,
         TrialKind::Door,
         TrialKind::Errors,
+        TrialKind::Reports,
     ];
 
     pub fn name(self) -> &'static str {
@@ -50,6 +53,7 @@ impl TrialKind {
             TrialKind::Turns => "turns",
             TrialKind::Door => "door",
             TrialKind::Errors => "errors",
+            TrialKind::Reports => "reports",
         }
     }
 
@@ -63,6 +67,7 @@ impl TrialKind {
             TrialKind::Turns => 400,
             TrialKind::Door => 1_000,
             TrialKind::Errors => 300,
+            TrialKind::Reports => 160,
         }
     }
 }
@@ -83,6 +88,7 @@ pub fn trials(kind: TrialKind, seed: u64, count: usize, take: &mut dyn FnMut(&[u
             TrialKind::Turns => turns::one_more(&mut maker),
             TrialKind::Door => door::one_more(&mut maker),
             TrialKind::Errors => errors::one_more(&mut maker),
+            TrialKind::Reports => reports::one_more(&mut maker),
         }
     }
 }
@@ -97,6 +103,7 @@ fn listed(kind: TrialKind, maker: &mut Maker) {
         TrialKind::Turns => turns::listed(maker),
         TrialKind::Door => door::listed(maker),
         TrialKind::Errors => errors::listed(maker),
+        TrialKind::Reports => reports::listed(maker),
     }
 }
 
@@ -156,6 +163,11 @@ impl Maker<'_> {
     fn tick(&mut self, picture: &[u32]) {
         let registers = self.few_registers();
         self.write(TICK, b"", &registers, picture);
+    }
+
+    /// A report of a tree with so many lines lent.
+    fn report(&mut self, top: u32, lines: usize, picture: &[u32]) {
+        self.write(REPORT, b"", &[top, lines as u32], picture);
     }
 
     fn fresh(&mut self, length: u32, heap_length: u32, lent: &[u32]) {
@@ -388,6 +400,38 @@ mod tests {
     }
 
     #[test]
+    fn every_key_of_a_report_occurs() {
+        let mut seen: BTreeMap<(String, Key), usize> = BTreeMap::new();
+        let (mut too_long, mut not_trials) = (BTreeSet::new(), 0);
+        for line in default_trials(TrialKind::Reports) {
+            let answer = answer(&line);
+            let Some(key) = key_of(&answer) else {
+                assert_eq!(answer, "?\n");
+                not_trials += 1;
+                continue;
+            };
+            let (call, picture) = (line[..2].to_uppercase(), picture_of(line.rsplit(' ').next().unwrap()));
+            if picture.len() > crate::picture::GREATEST_LENGTH {
+                if broken(&picture) == [Rule::SizeStated] {
+                    too_long.insert(call.clone());
+                }
+                assert_eq!(key, if call == "FF" { OUT_OF_RANGE } else { NOT_SOUND });
+            }
+            *seen.entry((call, key)).or_default() += 1;
+        }
+        for key in [DONE, INVALID_JOB, BUFFER_OVERFLOW, NOT_SOUND] {
+            let times = seen.get(&("F2".into(), key)).copied().unwrap_or(0);
+            assert!(times >= 10, "a report answers {key} {times} times");
+        }
+        let other = seen.keys().find(|(call, key)| call == "F2" && ![0, -2, -5, -16].contains(key));
+        assert_eq!(other, None, "a report answers only its own keys");
+        for call in ["01", "02", "F0", "F1", "F2", "FF"] {
+            assert!(too_long.contains(call), "{call} never meets a picture that is only too long");
+        }
+        assert!(not_trials >= 12, "{not_trials} not trials");
+    }
+
+    #[test]
     fn texts_are_found_and_not_found() {
         let answers: Vec<String> = default_trials(TrialKind::Errors).iter().map(|line| answer(line)).collect();
         for start in ["00000000 -", "00000000 65", "FFFFFFF9 -"] {
@@ -435,23 +479,42 @@ mod tests {
     #[test]
     fn sessions_mostly_make_sense() {
         for kind in SessionKind::ALL {
-            let mut input = Vec::new();
+            let mut picture = crate::session::fresh_picture();
+            let (mut lines, mut done, mut bad, mut reports, mut refused, mut bad_reports) = (0, 0, 0, 0, 0, 0);
             session(kind, DEFAULT_SEED, 3_000, &mut |line| {
                 assert!(!line.contains(&b'\n'));
-                input.extend_from_slice(line);
-                input.push(b'\n');
+                let mut answer = Vec::new();
+                crate::session::answer_line(Some(line), &mut picture, &mut answer);
+                let is_bad = answer == b"FFFFFFF1\n";
+                let is_report = line.to_ascii_uppercase().starts_with(b"F2");
+                lines += 1;
+                done += usize::from(!answer.starts_with(b"FFFFFFF"));
+                bad += usize::from(is_bad);
+                bad_reports += usize::from(is_report && is_bad);
+                refused += usize::from(is_report && answer == b"FFFFFFFE\n");
+                reports += usize::from(is_report && answer.len().is_multiple_of(41));
             });
-            let mut output = Vec::new();
-            crate::session::run(&mut &input[..], &mut output).unwrap();
-            let answers: Vec<&[u8]> = output.split(|&character| character == b'\n').collect();
-            assert_eq!(answers.len(), 3_001);
-            let done = answers.iter().filter(|answer| !answer.starts_with(b"FFFFFFF")).count();
-            let bad = answers.iter().filter(|answer| **answer == b"FFFFFFF1").count();
+            assert_eq!(lines, 3_000);
             if kind == SessionKind::Garbage {
-                assert!(bad > 1_000, "{bad} bad lines");
+                assert!(bad > 1_000 && bad_reports > 50, "{bad} bad lines, {bad_reports} of them for a report");
+                assert!(reports > 5, "{reports} reports");
             } else {
                 assert!(done > 1_500 && bad == 0, "{kind:?}: {done} done, {bad} bad lines");
+                assert!(reports > 30, "{kind:?}: {reports} reports");
+                assert!(refused > 4 || kind == SessionKind::Reports, "{kind:?}: {refused} refused");
             }
         }
+    }
+
+    #[test]
+    fn a_session_of_reports_soon_shows_32_members() {
+        let mut picture = crate::session::fresh_picture();
+        let mut full = 0;
+        session(SessionKind::Reports, DEFAULT_SEED, 1_000, &mut |line| {
+            let mut answer = Vec::new();
+            crate::session::answer_line(Some(line), &mut picture, &mut answer);
+            full += usize::from(answer.len() == 32 * 41);
+        });
+        assert!(full > 800, "{full} reports of 32 members");
     }
 }

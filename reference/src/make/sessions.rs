@@ -2,6 +2,7 @@
 
 use super::world::{Act, Mix, Step, World, LIVELY};
 use crate::hexadecimal::{write_byte, write_longword};
+use crate::picture::{CURRENT, JOB_MASK, NOBODY};
 use crate::random::Random;
 use crate::session;
 
@@ -14,16 +15,19 @@ pub enum SessionKind {
     Turns,
     Mixed,
     Garbage,
+    /// Jobs are made until the tree of job 0 has 32 members, and then every line is a report of it.
+    Reports,
 }
 
 impl SessionKind {
-    pub const ALL: [SessionKind; 6] = [
+    pub const ALL: [SessionKind; 7] = [
         SessionKind::Heap,
         SessionKind::Tree,
         SessionKind::Queue,
         SessionKind::Turns,
         SessionKind::Mixed,
         SessionKind::Garbage,
+        SessionKind::Reports,
     ];
 
     pub fn name(self) -> &'static str {
@@ -34,11 +38,20 @@ impl SessionKind {
             SessionKind::Turns => "session-turns",
             SessionKind::Mixed => "session-mixed",
             SessionKind::Garbage => "session-garbage",
+            SessionKind::Reports => "session-reports",
         }
     }
 
     /// How many lines are made where no count is given.
     pub const DEFAULT_COUNT: usize = 100_000;
+
+    /// Once in how many lines a report is asked for.
+    fn lines_to_a_report(self) -> usize {
+        match self {
+            SessionKind::Tree => 12,
+            _ => 40,
+        }
+    }
 
     fn mix(self) -> &'static Mix {
         match self {
@@ -86,6 +99,7 @@ impl SessionKind {
                 (Act::EndForced, 1),
             ],
             SessionKind::Mixed | SessionKind::Garbage => LIVELY,
+            SessionKind::Reports => &[(Act::Activate, 3), (Act::Pick, 2)],
         }
     }
 }
@@ -94,9 +108,16 @@ pub fn make(kind: SessionKind, random: &mut Random, count: usize, take: &mut dyn
     let mut world = World { picture: session::fresh_picture().to_vec() };
     let mut line = Vec::new();
     for _ in 0..count {
-        let step = world.step(random, kind.mix());
         line.clear();
-        write_step(&step, &mut line);
+        if kind == SessionKind::Reports {
+            write_toward_a_full_tree(&world, random, &mut line);
+        } else if random.once_in(kind.lines_to_a_report()) {
+            let top = if random.once_in(3) { 0 } else { world.some_job(random) };
+            write_report(top, &mut line);
+        } else {
+            let step = world.step(random, kind.mix());
+            write_step(&step, &mut line);
+        }
         if random.once_in(6) {
             line.make_ascii_lowercase();
         }
@@ -121,9 +142,27 @@ fn write_step(step: &Step, line: &mut Vec<u8>) {
     }
 }
 
+/// The report of job 0 where all jobs are under it; before that, mostly a new job of the current one, as small as can be.
+fn write_toward_a_full_tree(world: &World, random: &mut Random, line: &mut Vec<u8>) {
+    if world.picture[JOB_MASK] == u32::MAX {
+        write_report(0, line);
+    } else if world.picture[CURRENT] == NOBODY {
+        write_step(&Step::Pick, line);
+    } else if random.once_in(3) {
+        write_step(&world.step(random, SessionKind::Reports.mix()), line);
+    } else {
+        write_step(&Step::Trap { trap: 1, registers: [0x1, 0, 0, 4, 0, 0, 0, 0], name: Vec::new() }, line);
+    }
+}
+
+fn write_report(top: u32, line: &mut Vec<u8>) {
+    line.extend(b"F2");
+    write_longword(top, line);
+}
+
 /// Makes a line bad in some way, or strange but good. A line never gains a line feed.
 fn spoil(random: &mut Random, line: &mut Vec<u8>) {
-    match random.below(12) {
+    match random.below(13) {
         0 => line.clear(),
         1 => line.truncate(random.below(line.len() + 1)),
         2 => line.push(random.one_of(b"0aF \r-g")),
@@ -153,6 +192,12 @@ fn spoil(random: &mut Random, line: &mut Vec<u8>) {
             }
         }
         10 => line.insert(0, random.one_of(b"0 Ff")),
+        11 => {
+            let digits = random.one_of(&[0, 1, 2, 6, 7, 8, 9, 10, 16, 62, 63, 64, 65, 66, 510, 511]);
+            line.clear();
+            line.extend(random.one_of(&[b"F2", b"f2"]));
+            line.resize(2 + digits, b'0');
+        }
         _ => {
             line.resize(66, b'0');
             for _ in 0..random.below(224) {

@@ -3,9 +3,11 @@
 use std::io;
 use std::process::ExitCode;
 
+use krowjyvan::constants::{LINE_DEPTH, LINE_LONGWORDS, LINE_NUMBER, LINE_OWNER, LINE_PRIORITY, LINE_SUSPENDED};
 use krowjyvan::lent;
 use reference::keys::Key;
 use reference::manager::Manager;
+use reference::report::{JobLine, Reported};
 use reference::turns::Picked;
 
 /// The manager of the archive.
@@ -29,8 +31,39 @@ impl Manager for Linked {
         lent::tick(picture)
     }
 
+    fn report(top: u32, table: &mut [JobLine], picture: &[u32]) -> Reported {
+        let mut longwords: Vec<u32> = table.iter().flat_map(longwords_of).collect();
+        let (key, count) = lent::report_tree(picture, top, &mut longwords);
+        for (line, told) in table.iter_mut().zip(longwords.chunks_exact(LINE_LONGWORDS)) {
+            *line = line_of(told);
+        }
+        Reported { key, count }
+    }
+
     fn error_text<'a>(key: Key, system: &'a [u8], driver: &'a [u8]) -> (Key, &'a [u8]) {
         lent::error_text(key, system, driver)
+    }
+}
+
+/// A line as the archive is lent it.
+fn longwords_of(line: &JobLine) -> [u32; LINE_LONGWORDS] {
+    let mut longwords = [0; LINE_LONGWORDS];
+    longwords[LINE_NUMBER] = line.number;
+    longwords[LINE_OWNER] = line.owner;
+    longwords[LINE_DEPTH] = line.depth;
+    longwords[LINE_PRIORITY] = line.priority;
+    longwords[LINE_SUSPENDED] = u32::from(line.suspended);
+    longwords
+}
+
+/// A line that the archive was lent.
+fn line_of(longwords: &[u32]) -> JobLine {
+    JobLine {
+        number: longwords[LINE_NUMBER],
+        owner: longwords[LINE_OWNER],
+        depth: longwords[LINE_DEPTH],
+        priority: longwords[LINE_PRIORITY],
+        suspended: longwords[LINE_SUSPENDED] == 1,
     }
 }
 

@@ -1,9 +1,19 @@
 -- `program_fields::trials::read_rest` meets its contract: the counts are within what the readers were lent. Assumes nothing.
 use native.Mathlib.Omega.{arith}
-use Rattle.program_fields.proofs.Parts.{counted, count-within}
+use Prim.Native.Nat.{_≤_}
+use lib.ListN.{length, take}
+use Rattle.program_fields.proofs.Parts.{counted, count-within, larger}
 use borrow.Author.Needs.{needs}
 use Rattle.program_fields.proofs.trials.read_rest.Statement.{statement}
 use Rattle.program_fields.proofs.trials.read_rest.Tie as tie
+
+-- the registers lie in their room, as it is after they were read
+fit : (c : tie.After-known-told2) → c .before .before .before .before .before .before .before .before .before .count .given .0 .0 ≤ length (c .before .before .before .before .before .before .before .before .before .before .before .before .before .read-registers .last .1 .0)
+fit c =
+    let k = c .before .before .before .before .before .before .before .before .before in
+    let r = k .before .before .before .before in
+    let f = count-within _ _ _ (r .read-registers .ensures) (k .count .given .1) in
+    omega (arith, f, r .read-registers .kept .1 .0)
 
 blank-in-requires : tie.Need-blank-in-requires
 blank-in-requires c κs = search needs
@@ -59,6 +69,15 @@ same-length-3 c = search needs
 returns-3 : tie.Need-returns-3
 returns-3 c = search needs
 
+slice-reshare-prefix-trial-of : tie.Need-slice-reshare-prefix-trial-of
+slice-reshare-prefix-trial-of c = fit c
+
+slice-aggregate-trial-of : tie.Need-slice-aggregate-trial-of
+slice-aggregate-trial-of c = counted _ _ (fit (c .before))
+
+trial-of-requires : tie.Need-trial-of-requires
+trial-of-requires c κs = search needs
+
 same-length-4 : tie.Need-same-length-4
 same-length-4 c = search needs
 
@@ -67,14 +86,17 @@ same-length-5 c = search needs
 
 returns-4 : tie.Need-returns-4
 returns-4 c =
-    let s = c .before in
+    let s = c .before .before .before in
     let p = s .before .before .before .before in
     let k = p .before .before .before .before in
     let r = k .before .before .before .before in
     let a = r .before .before .before .before .before .before .before .before .args in
+    let n = k .count .given .0 .0 in
+    let room = r .read-registers .last .1 .0 in
     let f = count-within _ _ _ (r .read-registers .ensures) (k .count .given .1) in
     let g = count-within _ _ _ (p .read-picture .ensures) (s .size .given .1) in
-    (omega arith, f, g)
+    let e = counted n room (fit (c .before .before)) in
+    larger (c .trial-of .result) (a .characters) (length (take n room)) (s .size .given .0 .0) (a .characters) (length (a .registers .now)) (length (a .p .now)) (omega arith) (omega (arith, e, f)) g (c .trial-of .ensures)
 
 pub read-rest-spec : {M : Type 1} → statement M
 read-rest-spec =
@@ -98,6 +120,9 @@ read-rest-spec =
     same-length-2
     same-length-3
     returns-3
+    slice-reshare-prefix-trial-of
+    slice-aggregate-trial-of
+    trial-of-requires
     same-length-4
     same-length-5
     returns-4)

@@ -1,6 +1,7 @@
 -- `program_fields::trials::read_trial` meets its contract: the counts are within what the readers were lent. Assumes nothing.
+use native.Mathlib.Omega.{arith}
 use lib.ListN.{length}
-use Rattle.program_fields.proofs.Parts.{counted, longer-line}
+use Rattle.program_fields.proofs.Parts.{counted, larger}
 use borrow.Author.Needs.{needs}
 use Rattle.program_fields.proofs.trials.read_trial.Statement.{statement}
 use Rattle.program_fields.proofs.trials.read_trial.Tie as tie
@@ -23,12 +24,6 @@ slice-aggregate-call-of c = counted _ _ (c .before .before .blank-in .ensures .0
 call-of-requires : tie.Need-call-of-requires
 call-of-requires c κs = search needs
 
-enum-told : tie.Need-enum-told
-enum-told c = search needs
-
-returns-3 : tie.Need-returns-3
-returns-3 c = search needs
-
 sub-read-rest : tie.Need-sub-read-rest
 sub-read-rest c = search needs
 
@@ -47,12 +42,12 @@ same-length c = search needs
 same-length-2 : tie.Need-same-length-2
 same-length-2 c = search needs
 
-returns-4 : tie.Need-returns-4
-returns-4 c =
+returns-3 : tie.Need-returns-3
+returns-3 c =
     let r = c .before .before .before .before in
-    let b = r .before .before .before .before .before .before .before .before in
+    let b = r .before .before .before .before .before .before .before in
     let a = b .before .before .before .before .before .args in
-    longer-line (r .read-rest .result) (b .blank-in .result) (length (a .registers .now)) (length (a .p .now)) (length (a .line .now)) (b .blank-in .ensures .0) (r .read-rest .ensures)
+    larger (r .read-rest .result) (b .blank-in .result) (length (a .registers .now)) (length (a .p .now)) (length (a .line .now)) _ _ (b .blank-in .ensures .0) (omega arith) (omega arith) (r .read-rest .ensures)
 
 pub read-trial-spec : {M : Type 1} → statement M
 read-trial-spec =
@@ -64,12 +59,10 @@ read-trial-spec =
     add-next
     slice-aggregate-call-of
     call-of-requires
-    enum-told
-    returns-3
     sub-read-rest
     part-read-rest-start
     part-read-rest-end
     read-rest-requires
     same-length
     same-length-2
-    returns-4)
+    returns-3)

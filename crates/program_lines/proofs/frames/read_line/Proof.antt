@@ -6,7 +6,7 @@ use Rattle.program_digits.specs.Digits.{digits}
 use Rattle.program_digits.proofs.Reader.{digits-part}
 use borrow.Author.Tests.{not-true, not-false}
 use Rattle.program_lines.specs.Frames.{frame, called}
-use Rattle.program_lines.proofs.Meaning.{told-as, told-bad, told-pick, told-tick, empty-bad, long-bad, odd-bad, strange-bad, fair-called, pick-alone, pick-left-over, tick-alone, tick-left-over, trap-called}
+use Rattle.program_lines.proofs.Meaning.{told-as, told-bad, told-pick, told-tick, empty-bad, long-bad, odd-bad, strange-bad, fair-called, pick-alone, pick-left-over, tick-alone, tick-left-over, told-report, report-called, trap-called}
 use borrow.Author.Needs.{needs}
 use native.Mathlib.Omega.{arith}
 use Rattle.program_lines.proofs.frames.read_line.Statement.{statement}
@@ -57,8 +57,17 @@ returns-7 c = told-tick _ _ _ (fair (c .before .before .before) ∙ tick-alone _
 returns-8 : tie.Need-returns-8
 returns-8 c = told-bad _ _ _ (fair (c .before .before .before) ∙ tick-left-over _ _ (c .before .if7 .taken) (c .if8 .left))
 
+read-report-requires : tie.Need-read-report-requires
+read-report-requires c κs = all (c .before .before .before .before)
+
+returns-9 : tie.Need-returns-9
+returns-9 c =
+    let t = c .before in
+    let n = t .before .before .before in
+    told-report _ _ _ _ _ (fair n ∙ report-called _ _ (t .if9 .taken)) (c .read-report .ensures)
+
 read-trap-requires : tie.Need-read-trap-requires
-read-trap-requires c κs = all (c .before .before .before .before .before)
+read-trap-requires c κs = all (c .before .before .before .before .before .before)
 
 same-length : tie.Need-same-length
 same-length c = search needs
@@ -66,11 +75,11 @@ same-length c = search needs
 same-length-2 : tie.Need-same-length-2
 same-length-2 c = search needs
 
-returns-9 : tie.Need-returns-9
-returns-9 c =
+returns-10 : tie.Need-returns-10
+returns-10 c =
     let t = c .before .before .before .before in
     let e = t .before .before .before in
-    told-as _ _ _ _ _ _ _ (fair (e .before .before) ∙ trap-called _ _ (e .before .if5 .left) (e .if7 .left)) (t .read-trap .ensures)
+    told-as _ _ _ _ _ _ _ (fair (e .before .before .before) ∙ trap-called _ _ (e .before .before .if5 .left) (e .before .if7 .left) (e .if9 .left)) (t .read-trap .ensures)
 
 pub read-line-spec : {M : Type 1} → statement M
 read-line-spec =
@@ -86,7 +95,9 @@ read-line-spec =
     returns-6
     returns-7
     returns-8
+    read-report-requires
+    returns-9
     read-trap-requires
     same-length
     same-length-2
-    returns-9)
+    returns-10)

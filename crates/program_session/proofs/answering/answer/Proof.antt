@@ -4,7 +4,7 @@ use native.Mathlib.Omega.{arith}
 use Prim.Native.Nat.{_≤_}
 use lib.ListN.{length}
 use lib.Seq.{length-take-le}
-use Rattle.program_lines.specs.declared.Line.the-variants.{Bad, Pick, Tick}
+use Rattle.program_lines.specs.declared.Line.the-variants.{Bad, Pick, Tick, Report}
 use Rattle.program_lines.specs.Frames.{bad, picks, ticks, frame}
 use Rattle.program_lines.proofs.Meaning.{Trapped, kind-says, trap-read}
 use Rattle.program_session.proofs.Replies.{lone-replied, trap-replied}
@@ -47,6 +47,9 @@ enum-told-3 c = search needs
 
 tick-requires : tie.Need-tick-requires
 tick-requires c κs = search needs
+
+enum-known-top : tie.Need-enum-known-top
+enum-known-top c = search needs
 
 enum-known-trap : tie.Need-enum-known-trap
 enum-known-trap c = search needs
@@ -99,11 +102,20 @@ returns-3 c =
 same-length-6 : tie.Need-same-length-6
 same-length-6 c = search needs
 
+returns-4 : tie.Need-returns-4
+returns-4 c =
+    let s = c .before .before .before .before .before .before .before .before .before .before .before .before .before in
+    let r = c .before .before .before .before .before .before .read-line .ensures in
+    (kind-says (frame (s .args .line .now)) (Report (c .before .top .given .0 .0)) (sym (r .kind) ∙ c .before .top .given .1), refl)
+
 same-length-7 : tie.Need-same-length-7
 same-length-7 c = search needs
 
-returns-4 : tie.Need-returns-4
-returns-4 c =
+same-length-8 : tie.Need-same-length-8
+same-length-8 c = search needs
+
+returns-5 : tie.Need-returns-5
+returns-5 c =
     let s = c .before .before .before .before .before .before .before .before .before .before .before .before .before .before .before .before .before .before .before .before .before in
     let t = c .before .before .before .before .call in
     let r = c .before .before .before .before .before .before .before .before .before .before .before .before .before .before .read-line in
@@ -123,6 +135,7 @@ answer-spec =
     pick-requires
     enum-told-3
     tick-requires
+    enum-known-top
     enum-known-trap
     array-share-prefix-name
     slice-aggregate-call
@@ -136,5 +149,7 @@ answer-spec =
     same-length-5
     returns-3
     same-length-6
+    returns-4
     same-length-7
-    returns-4)
+    same-length-8
+    returns-5)

@@ -2,8 +2,9 @@
 use native.Mathlib.Omega.{arith}
 use mir.Syntax.{w32}
 use mir.ValLaws.{toZ-ofZ}
-use Rattle.program_lines.specs.Frames.{picks}
-use Rattle.program_session.specs.Reply.{reply}
+use mathlib.Core.List.{[], _∷_}
+use Rattle.words.specs.Signed.{bits}
+use Rattle.manager.specs.Turn.{pick-answer, pick-picture}
 use Rattle.program_session.proofs.Replies.{put-there}
 use borrow.Author.Needs.{needs}
 use Rattle.program_session.proofs.answering.pick.Statement.{statement}
@@ -31,7 +32,7 @@ returns : tie.Need-returns
 returns c =
     let s = c .before .before .before .before .before .before .before .before .before .before .before .before .before .before .before .before in
     let t = c .before .before .before .before .before .before .before .before .before .before .before .before .pick in
-    rw (c .before .before .put2 .ensures, c .before .before .before .bits-of .ensures, toZ-ofZ w32 (t .result .key) (record { sfits = t .ok .1 .1 .1 .0 .1 }), c .before .before .before .before .before .before .before .before .put .ensures, t .ensures .0, t .ensures .1) (put-there (reply picks (s .args .p .now)) (s .args .registers .now) (omega (arith, s .pre)))
+    rw (c .before .before .put2 .ensures, c .before .before .before .bits-of .ensures, toZ-ofZ w32 (t .result .key) (record { sfits = t .ok .1 .1 .1 .0 .1 }), c .before .before .before .before .before .before .before .before .put .ensures, t .ensures .0, t .ensures .1) (put-there (pick-answer (s .args .p .now) .number ∷ bits (pick-answer (s .args .p .now) .key) ∷ []) (pick-picture (s .args .p .now)) (s .args .registers .now) (omega (arith, s .pre)))
 
 pub pick-spec : {M : Type 1} → statement M
 pick-spec =

@@ -1,7 +1,8 @@
 -- `program_session::answering::refuse` meets its contract: its key is put at the start of the room. Assumes nothing.
 use native.Mathlib.Omega.{arith}
-use Rattle.program_lines.specs.Frames.{bad}
-use Rattle.program_session.specs.Reply.{reply}
+use mathlib.Core.List.{[], _∷_}
+use Rattle.words.specs.Signed.{bits}
+use Rattle.picture.specs.Keys.{bad-parameter}
 use Rattle.program_session.proofs.Replies.{put-there}
 use borrow.Author.Needs.{needs}
 use Rattle.program_session.proofs.answering.refuse.Statement.{statement}
@@ -19,7 +20,7 @@ same-length c = search needs
 returns : tie.Need-returns
 returns c q =
     let s = c .before .before .before .before .before .before in
-    rw (c .before .before .put .ensures, c .before .before .before .bits-of .ensures) (put-there (reply bad q) (s .args .registers .now) (omega (arith, s .pre)))
+    rw (c .before .before .put .ensures, c .before .before .before .bits-of .ensures) (put-there (bits bad-parameter ∷ []) q (s .args .registers .now) (omega (arith, s .pre)))
 
 pub refuse-spec : {M : Type 1} → statement M
 refuse-spec = tie.close (tie.spec bits-of-requires put-requires same-length returns)

@@ -2,8 +2,9 @@
 use native.Mathlib.Omega.{arith}
 use mir.Syntax.{w32}
 use mir.ValLaws.{toZ-ofZ}
-use Rattle.program_lines.specs.Frames.{ticks}
-use Rattle.program_session.specs.Reply.{reply}
+use mathlib.Core.List.{[], _∷_}
+use Rattle.words.specs.Signed.{bits}
+use Rattle.manager.specs.Turn.{tick-key, ticking}
 use Rattle.program_session.proofs.Replies.{put-there}
 use borrow.Author.Needs.{needs}
 use Rattle.program_session.proofs.answering.tick.Statement.{statement}
@@ -28,7 +29,7 @@ returns : tie.Need-returns
 returns c =
     let s = c .before .before .before .before .before .before .before .before .before .before .before in
     let t = c .before .before .before .before .before .before .before .tick in
-    rw (c .before .before .put .ensures, c .before .before .before .bits-of .ensures, toZ-ofZ w32 (t .result) (record { sfits = t .ok }), t .ensures .0, t .ensures .1) (put-there (reply ticks (s .args .p .now)) (s .args .registers .now) (omega (arith, s .pre)))
+    rw (c .before .before .put .ensures, c .before .before .before .bits-of .ensures, toZ-ofZ w32 (t .result) (record { sfits = t .ok }), t .ensures .0, t .ensures .1) (put-there (bits (tick-key (s .args .p .now)) ∷ []) (ticking (s .args .p .now)) (s .args .registers .now) (omega (arith, s .pre)))
 
 pub tick-spec : {M : Type 1} → statement M
 tick-spec =

@@ -1,0 +1,4 @@
+-- The report of a tree, in words.
+pub mod Lines
+pub mod Asked
+pub mod Causes
