@@ -6,6 +6,7 @@ use mathlib.Core.List.{List}
 use native.Mathlib.Numerals.{add-one}
 use borrow.Author.Tests.{lt-ltb, le-ltb, eq-eqb, ne-eqb}
 use Rattle.words.specs.Bits.{bit}
+use Rattle.words.proofs.Tests.{fails-behind}
 use Rattle.picture.specs.Records.{number}
 use Rattle.picture.specs.Numbers.{tag}
 use Rattle.picture.specs.declared.Table.the-variants.{Jobs}
@@ -25,15 +26,11 @@ and-true : (b : Bool) → b && true ≡ b
 and-true true = refl
 and-true false = refl
 
-and-false : (b : Bool) → false ≡ b && false
-and-false true = refl
-and-false false = refl
-
 -- one position, whose tag is t
 module _ (p : List ℕ) (m g n k t : ℕ) (e : t ≡ tag (number p Jobs k)) where
   pub not-greater : t ≤ g → false ≡ nearer p m g n k
   unfolding nearer
-  not-greater l = rw (← e, le-ltb g t l) (and-false (bit m k))
+  not-greater l = rw (← e, le-ltb g t l) (fails-behind (bit m k) false refl)
 
   pub first-one : g < t → n ≡ 0 → (b : Bool) → b ≡ bit m k → b ≡ nearer p m g n k
   unfolding nearer
@@ -41,7 +38,7 @@ module _ (p : List ℕ) (m g n k t : ℕ) (e : t ≡ tag (number p Jobs k)) wher
 
   pub not-nearer : g < t → (n ≡ 0 → ⊥) → tag n ≤ t → false ≡ nearer p m g n k
   unfolding nearer
-  not-nearer l z d = rw (← e, lt-ltb g t l, ne-eqb n 0 z, le-ltb t (tag n) d) (and-false (bit m k))
+  not-nearer l z d = rw (← e, lt-ltb g t l, ne-eqb n 0 z, le-ltb t (tag n) d) (fails-behind (bit m k) false refl)
 
   pub a-nearer-one : g < t → (n ≡ 0 → ⊥) → t < tag n → (b : Bool) → b ≡ bit m k → b ≡ nearer p m g n k
   unfolding nearer

@@ -8,7 +8,7 @@ use report_lines::line_of;
 use report_table::longwords_of;
 use words::put;
 ghost use mathlib.Core.Path.{_≡_};
-ghost use Prim.Native.Nat.{_*_, _/_, _≤_, _<_};
+ghost use Prim.Native.Nat.{_*_, _≤_, _<_};
 ghost use lib.ListN.{length};
 ghost use lib.Seq.{sets};
 ghost use Rattle.calls.specs.Outcome.{Meets};
@@ -20,7 +20,7 @@ ghost use Rattle.report_table.specs.Longwords.{line-longwords as lineLongwords}
 ghost use Rattle.manager.specs.Door.{called};
 ghost use Rattle.manager.specs.Turn.{ticking, pick-picture as pickPicture, pick-answer as pickAnswer, tick-key as tickKey};
 ghost use Rattle.krowjyvan.specs.Part.{start-of as startOf, count-of as countOf};
-ghost use Rattle.krowjyvan.specs.Lines.{lines-longwords as linesLongwords};
+ghost use Rattle.krowjyvan.specs.Lines.{lines-lent as linesLent, lines-longwords as linesLongwords};
 
 // manager::fresh.
 #[no_mangle]
@@ -65,7 +65,7 @@ pub extern "C" fn krowjyvan_report_tree(
     lines: &mut [u32],
     count: &mut usize,
 ) -> i32
-    ensures { λ r. ⌜ (r ≡ reportKey (now (p .entry)) top (length (now (lines .entry)) / 5)) × ((now (count .exit) ≡ length (reportLines (now (p .entry)) top (length (now (lines .entry)) / 5))) × (now (lines .exit) ≡ sets (now (lines .entry)) 0 (linesLongwords (reportLines (now (p .entry)) top (length (now (lines .entry)) / 5))))) ⌝ }
+    ensures { λ r. ⌜ (r ≡ reportKey (now (p .entry)) top (linesLent (now (lines .entry)))) × ((now (count .exit) ≡ length (reportLines (now (p .entry)) top (linesLent (now (lines .entry))))) × (now (lines .exit) ≡ sets (now (lines .entry)) 0 (linesLongwords (reportLines (now (p .entry)) top (linesLent (now (lines .entry))))))) ⌝ }
 {
     let lent = lines.len() / 5;
     let begun = begin(p, top, lent);
@@ -116,7 +116,7 @@ fn count_in(spot: Spot) -> usize
 
 // The lines of a report that has begun, stored from the table's start on.
 fn put_lines(table: &mut [u32], p: &[u32], top: u32, begun: Beginning)
-    requires { ⌜ begun .count ≤ length (now table) / 5 ⌝ }
+    requires { ⌜ begun .count ≤ linesLent (now table) ⌝ }
     ensures { λ _. ⌜ now (table .exit) ≡ sets (now (table .entry)) 0 (linesLongwords (linesFrom (begun .count) (now (p .entry)) (begun .members) (begun .top) top)) ⌝ }
 {
     let mut number = top;
@@ -131,7 +131,7 @@ fn put_lines(table: &mut [u32], p: &[u32], top: u32, begun: Beginning)
 
 // A line, stored as line i.
 fn put_line(table: &mut [u32], i: usize, line: JobLine)
-    requires { ⌜ i < length (now table) / 5 ⌝ }
+    requires { ⌜ i < linesLent (now table) ⌝ }
     ensures { λ _. ⌜ now (table .exit) ≡ sets (now (table .entry)) (5 * i) (lineLongwords line) ⌝ }
 {
     let longwords = longwords_of(line);

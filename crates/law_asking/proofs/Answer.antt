@@ -99,6 +99,11 @@ module _ (p : List ℕ) (s : sound p ≡ true) (t : ℕ) where
     in-A1 : A1 d0 ≡ 0
     in-A1 = getD-set-other d5 0 5 x 0 (λ q. omega arith) ∙ getD-set-same d4 5 0 0 (simp length-set (omega arith))
 
+    -- D1 has the next member's number
+    pub told-in-D1 : D1 (put (answered p d t k) 0 x) ≡ next-member p (tree p t) (tag (number p Jobs k))
+    unfolding answered
+    told-in-D1 = in-D1
+
     -- D0 has its key, and A2 and A3 stay
     pub told-in-D0 : word (put (answered p d t k) 0 x) 0 ≡ x
     unfolding answered

@@ -5,7 +5,6 @@ use mathlib.Core.Bool.{Bool, true, false, not, cond}
 use mathlib.Core.List.{List}
 use lib.IntN.{pos}
 use lib.ListN.{length}
-use lib.Seq.{getD-set-same, getD-set-other}
 use native.Mathlib.Omega.{arith}
 use borrow.Author.Tests.{ne-eqb}
 use Rattle.words.specs.Words.{word, put}
@@ -29,9 +28,9 @@ use Rattle.tree.specs.Tree.{tree}
 use Rattle.law_owners.proofs.Owners.{owners-in-order}
 use Rattle.law_owners.proofs.Members.{in-tree-has}
 use Rattle.asking.specs.Next.{next-member}
-use Rattle.asking.specs.Ask.{standing, room, answered, ask}
+use Rattle.asking.specs.Ask.{answered, ask}
 use Rattle.law_asking.specs.Answer.{Answers}
-use Rattle.law_asking.proofs.Answer.{answers-so}
+use Rattle.law_asking.proofs.Answer.{told-in-D1, answers-so}
 use Rattle.traps.specs.Traps.{trap-one}
 use Rattle.manager.specs.Door.{with-key, called}
 use Rattle.manager.proofs.Door.{called-with-eight, checked-named, named-one}
@@ -49,30 +48,13 @@ means-itself : (p : List ℕ) (n : ℕ) → position n < positions Jobs → mean
 unfolding meant
 means-itself p n l = let e : bit n 15 ≡ false = ne-eqb (n / 32768 % 2) 1 (λ z. omega arith) in rw e
 
-module _ (p : List ℕ) (t k : ℕ) (d : List ℕ) (l : length d ≡ 8) where
-  -- the answer in D1
-  answer-in-D1 : D1 (put (answered p d t k) 0 0) ≡ next-member p (tree p t) (tag (number p Jobs k))
-  unfolding answered
-  answer-in-D1 =
-      let x = next-member p (tree p t) (tag (number p Jobs k)) in
-      let a = put d 1 x in
-      let b = put a 2 (owner p Jobs k) in
-      let c = put b 3 (standing p k) in
-      let e = put c 4 (room p k) in
-      getD-set-other (put e 5 0) 0 1 0 0 (λ q. omega arith)
-      ∙ getD-set-other e 5 1 0 0 (λ q. omega arith)
-      ∙ getD-set-other c 4 1 (room p k) 0 (λ q. omega arith)
-      ∙ getD-set-other b 3 1 (standing p k) 0 (λ q. omega arith)
-      ∙ getD-set-other a 2 1 (owner p Jobs k) 0 (λ q. omega arith)
-      ∙ getD-set-same d 1 x 0 (omega arith)
-
 module _ (p : List ℕ) (s : sound p ≡ true) (t n : ℕ) (M : Member p t n) where
   -- what the registers say of a member
   said-of : (d : List ℕ) → length d ≡ 8 → Said p (line p t n) (next p (tree p t) n) (with-key (succeed p (answered p d t (position n))))
   unfolding line next
   said-of d l = record {
     is-done = refl;
-    answer = answer-in-D1 p t (position n) d l ∙ ap (λ (x : ℕ). next-member p (tree p t) (tag x)) (M .names);
+    answer = told-in-D1 p s t (position n) 0 d l ∙ ap (λ (x : ℕ). next-member p (tree p t) (tag x)) (M .names);
     its-owner = A .its-owner;
     standing = stands (eqZ (timeout p (position n)) (pos 0)) refl;
     picture = refl;

@@ -51,5 +51,5 @@ module _ (p : List ℕ) (s : sound p ≡ true) (t : ℕ) where
       let z : position (owner p Jobs k) ≡ j = ap position e ∙ O .place j v in
       let c = both (used p Jobs k) _ (in-tree-has p O t k u w) .1 in
       let up = climbs-up (positions Jobs) p t k (omega arith) d (λ y. nobody-is-no-job p j O v (sym e ∙ y)) in
-      let r : climbs 31 p t j ≡ true = rw z at (sym up ∙ c) in
-      (rw z at (depth-up (positions Jobs) p t k (omega arith) d)) ∙ ap suc (sym (depth-settles 31 p t j r))
+      let r : climbs (positions Jobs - 1) p t j ≡ true = rw z at (sym up ∙ c) in
+      (rw z at (depth-up (positions Jobs) p t k (omega arith) d)) ∙ ap suc (sym (depth-settles (positions Jobs - 1) p t j r))

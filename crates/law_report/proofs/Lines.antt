@@ -1,5 +1,5 @@
 -- A run from the top on has the lines of the tree.
-use Prim.Native.Nat.{ℕ, zero, suc, _<_, _≤_}
+use Prim.Native.Nat.{ℕ, suc, _<_, _≤_}
 use mathlib.Core.Path.{_≡_, refl, sym, ap, _∙_, subst}
 use mathlib.Core.Bool.{Bool, true, false, not}
 use mathlib.Core.Logic.{⊎-elim}
@@ -23,6 +23,7 @@ use Rattle.report_lines.specs.declared.JobLine.{JobLine}
 use Rattle.report_lines.specs.Line.{depth, line}
 use Rattle.report_lines.specs.Order.{size, lines-from}
 use Rattle.report_lines.specs.Report.{tree-lines}
+use Rattle.report_lines.proofs.Order.{length-lines}
 use Rattle.law_report.specs.Lines.{at, Tells, Lines, LinesOfTheTree}
 use Rattle.law_report.specs.Causes.{AsManyLinesAsMembers}
 use Rattle.law_report.proofs.Members.{Member, left, owner-older, top-oldest, size-is}
@@ -147,14 +148,9 @@ module _ (p : List ℕ) (top : ℕ) (s : sound p ≡ true) (l : live p Jobs top 
   tree-has-lines : Lines p (position top) (tree-lines p (position top) top)
   tree-has-lines = lines-of-run p s (position top) top top-member refl (tree-lines p (position top) top) tree-run
 
-so-many : (i : ℕ) (p : List ℕ) (m t n : ℕ) → length (lines-from i p m t n) ≡ i
-unfolding lines-from
-so-many zero p m t n = refl
-so-many (suc i) p m t n = ap suc (so-many i p m t _)
-
 pub as-many-lines-as-members : AsManyLinesAsMembers
 unfolding tree-lines
-as-many-lines-as-members p top s l = (tree-has-lines p top s l, so-many (size (tree p (position top))) p (tree p (position top)) (position top) top)
+as-many-lines-as-members p top s l = (tree-has-lines p top s l, length-lines p (tree p (position top)) (position top) (size (tree p (position top))) top)
 
 pub lines-of-the-tree : LinesOfTheTree
 lines-of-the-tree p top lent e =

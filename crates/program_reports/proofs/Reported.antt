@@ -1,16 +1,16 @@
 -- What a report in a table of its own gives.
 use Prim.Native.Nat.{ℕ, _≤_}
-use mathlib.Core.Path.{_≡_, sym, ap, _∙_}
+use mathlib.Core.Path.{_≡_, sym, ap}
 use mathlib.Core.Bool.{true, false}
-use mathlib.Core.List.{List, [], _∷_, _++_, map}
+use mathlib.Core.List.{List, [], _∷_, map}
 use native.Mathlib.Omega.{arith}
-use native.Mathlib.Nat.{zero-add}
-use lib.ListN.{length, take, drop}
-use lib.Seq.{sets, sets-eq, take-append-seam}
+use lib.ListN.{length, take}
+use lib.Seq.{sets}
 use Rattle.words.specs.Signed.{bits, eqZ}
 use Rattle.picture.specs.Keys.{done}
 use Rattle.picture.specs.Layout.{positions}
 use Rattle.picture.specs.declared.Table.the-variants.{Jobs}
+use Rattle.program_writing.proofs.Room.{first-of}
 use Rattle.report_lines.specs.Report.{report-key, report-lines}
 use Rattle.report_lines.specs.declared.JobLine.{JobLine}
 use Rattle.report_lines.proofs.Report.{lines-within}
@@ -18,10 +18,6 @@ use Rattle.report_table.specs.Answer.{report-answer}
 use Rattle.report_table.specs.Longwords.{line-longwords}
 use Rattle.report_table.specs.declared.Report.{Report}
 use Rattle.program_reports.specs.Reports.{reported}
-
--- lines put at the start of a table are the first of it
-first-of : (a v : List JobLine) → length v ≤ length a → take (length v) (sets a 0 v) ≡ v
-first-of a v l = ap (take (length v)) (sets-eq v a 0 (omega arith) ∙ ap (λ (k : ℕ). v ++ drop k a) (zero-add (length v))) ∙ take-append-seam v (drop (length v) a)
 
 module _ (p : List ℕ) (top : ℕ) (r : Report) (e : r ≡ report-answer p top (positions Jobs)) where
   key-is : report-key p top (positions Jobs) ≡ r .key

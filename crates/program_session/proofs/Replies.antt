@@ -1,33 +1,19 @@
 -- Replies as they stand in the registers' room. Assumes nothing.
 use Prim.Native.Nat.{ℕ, _≤_}
 use mathlib.Core.Path.{_≡_, refl, sym, ap, subst, _∙_}
-use mathlib.Core.List.{List, [], _∷_, _++_}
+use mathlib.Core.List.{List, [], _∷_}
 use native.Mathlib.Omega.{arith}
-use native.Mathlib.Nat.{zero-add}
 use lib.IntN.{ℤ}
 use lib.ListN.{length, take, drop, drop-of-length-le}
-use lib.Seq.{sets, sets-eq, length-sets, take-all, take-append-seam, drop-append-seam}
+use lib.Seq.{sets, length-sets, take-all}
 use Rattle.calls.specs.Outcome.{Meets}
+use Rattle.program_writing.proofs.Room.{first-of, rest-of, all-of}
 use Rattle.manager.specs.Door.{called}
 use Rattle.program_session.specs.declared.Answer.{Answer}
 use Rattle.program_session.specs.declared.Answer.the-variants.{Longwords, Report}
 use Rattle.program_lines.specs.Frames.{Frame, reports, registers-of, name-of}
 use Rattle.program_lines.proofs.Meaning.{Trapped}
 use Rattle.program_session.specs.Reply.{one-line, reply, Replied, Comes}
-
--- longwords or bytes put at the start of a room are the first of it, and behind them it is as it was
-in-room : (a v : List ℕ) → length v ≤ length a → sets a 0 v ≡ v ++ drop (length v) a
-in-room a v l = sets-eq v a 0 (omega arith) ∙ ap (λ (k : ℕ). v ++ drop k a) (zero-add (length v))
-
-pub first-of : (a v : List ℕ) → length v ≤ length a → take (length v) (sets a 0 v) ≡ v
-first-of a v l = ap (take (length v)) (in-room a v l) ∙ take-append-seam v (drop (length v) a)
-
-pub rest-of : (a v : List ℕ) → length v ≤ length a → drop (length v) (sets a 0 v) ≡ drop (length v) a
-rest-of a v l = ap (drop (length v)) (in-room a v l) ∙ drop-append-seam v (drop (length v) a)
-
--- what fills its room is the room
-pub all-of : (a v : List ℕ) → length v ≡ length a → sets a 0 v ≡ v
-all-of a v e = sym (take-all (length v) (sets a 0 v) (rw (length-sets a 0 v) (omega arith))) ∙ first-of a v (omega arith)
 
 -- a reply put at the start of a room is given
 pub put-there : (ws q a : List ℕ) → length ws ≤ length a → Replied (one-line ws q) (length ws) q a (sets a 0 ws)
