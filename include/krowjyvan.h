@@ -93,10 +93,10 @@ extern "C" {
  * caller goes on at a later turn of its own. Refused, it leaves the caller current.
  *
  * MT.INF                                                  -> D1 the current job, D2 the characters 1.00 ($312E3030), A0 0
- * MT.CJOB     D1 negative: nobody owns the new job; a     -> D1 the new job, inactive; A0 the first of its D2 + D3 bytes
- *             live job: the current job owns it. D2 bytes
- *             of code, D3 of data, at least 4; A1 a start
- *             address, which is kept and not looked at
+ * MT.CJOB     D1 the owner, any live job; negative: none. -> D1 the new job, inactive; A0 the first of its D2 + D3 bytes
+ *             D2 bytes of code, D3 of data, at least 4;
+ *             A1 a start address, which is kept and not
+ *             looked at
  * MT.JINF     D1* a job in the tree of D2, D2 a job       -> D1 the next younger job of that tree, 0 after the youngest;
  *                                                            D2 its owner or KROWJYVAN_NOBODY; D3 its priority, and if it is
  *                                                            suspended $FF000000 more; A0 its first byte, 0 for job 0; A1 0

@@ -54,12 +54,12 @@ static void expect(int32_t key, int32_t expected)
     }
 }
 
-/* Creates a desk's program with 60 bytes of code and 40 of data. */
-static uint32_t create(const char *what)
+/* Creates a program for a job, its owner, with 60 bytes of code and 40 of data. */
+static uint32_t create(const char *what, uint32_t owner)
 {
     registers[KROWJYVAN_D2] = 60;
     registers[KROWJYVAN_D3] = 40;
-    expect(call(what, KROWJYVAN_TRAP_1, KROWJYVAN_MT_CJOB, 0, 0, ""), KROWJYVAN_DONE);
+    expect(call(what, KROWJYVAN_TRAP_1, KROWJYVAN_MT_CJOB, owner, 0, ""), KROWJYVAN_DONE);
     registers[KROWJYVAN_D2] = registers[KROWJYVAN_D3] = 0;
     printf("    It is job $%08X, and its room starts at byte %u.\n", (unsigned)registers[KROWJYVAN_D1], (unsigned)registers[KROWJYVAN_A0]);
     return registers[KROWJYVAN_D1];
@@ -74,7 +74,7 @@ static uint32_t open_queue(const char *what, uint32_t job)
     return registers[KROWJYVAN_A0];
 }
 
-/* Shows the leader's screen: job 0, and farther in the jobs of the desks, which it owns. */
+/* Shows the leader's screen: job 0, farther in the jobs of the desks, which it owns, and under each the helper that it owns. */
 static void show_screen(void)
 {
     uint32_t table[KROWJYVAN_JOBS][KROWJYVAN_LINE_LONGWORDS];
@@ -95,8 +95,9 @@ int main(void)
     print_key(krowjyvan_fresh(picture, N, N, H));
     printf(".\n");
 
-    four = create("Desk four starts");
-    five = create("Desk five starts");
+    four = create("Desk four starts", 0);
+    create("The workshop leader starts a helper for desk four", four);
+    five = create("Desk five starts", 0);
     show_screen();
     tank = open_queue("Desk four opens a queue for its fish tank", four);
     expect(call("Desk four logs 8 milligrams of oxygen in its tank", KROWJYVAN_TRAP_3, KROWJYVAN_IO_SBYTE, 8, tank, ""), KROWJYVAN_DONE);

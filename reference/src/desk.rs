@@ -54,21 +54,15 @@ impl Desk {
     /// A job that is surely created, owned by the current job or unowned, made active by hand.
     pub fn job(&mut self, owned: bool, priority: u32) -> u32 {
         let owner = if owned { self.picture[CURRENT] } else { NOBODY };
+        self.job_of(owner, priority)
+    }
+
+    /// A job that is surely created for this owner, or for nobody, made active by hand.
+    pub fn job_of(&mut self, owner: u32, priority: u32) -> u32 {
         let (key, after) = self.create(owner, 12, 4);
         assert_eq!(key, 0);
         *self.field(after[D1], job::PRIORITY) = priority;
         after[D1]
-    }
-
-    /// A job owned by another, which need not be ready.
-    pub fn job_of(&mut self, owner: u32, priority: u32) -> u32 {
-        let current = std::mem::replace(&mut self.picture[CURRENT], owner);
-        let mut registers = [0x1, owner, 12, 4, 0, 0x4000, 0, 0];
-        assert_eq!(manager::call_on_sound(1, &mut registers, b"", &mut self.picture), Ok(()));
-        self.picture[CURRENT] = current;
-        *self.field(registers[D1], job::PRIORITY) = priority;
-        assert_eq!(broken(&self.picture), []);
-        registers[D1]
     }
 
     pub fn take(&mut self, bytes: u32, owner: u32) -> (Key, Registers) {

@@ -65,6 +65,11 @@ impl History {
             assert_eq!(after[D1..], registers[D1..]);
             assert_eq!(self.picture, before);
         }
+        // A new job is owned by the job that D1 names, or by nobody where D1 is negative.
+        if key == DONE && trap == 1 && registers[D0] == 0x1 {
+            let owner = if (registers[D1] as i32) < 0 { NOBODY } else { registers[D1] };
+            assert_eq!(self.picture[job_record(position(after[D1])) + job::OWNER], owner);
+        }
         // A priority call names the job in D1, or the current job by bit 15, whether or not it is refused.
         if trap == 1 && (registers[D0] == 0xA || registers[D0] == 0xB) {
             let named = if means_current(registers[D1]) { before[CURRENT] } else { registers[D1] };

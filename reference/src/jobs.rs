@@ -63,15 +63,12 @@ pub fn ask_system(registers: &mut Registers, picture: &[u32]) -> Answer {
     Ok(())
 }
 
-/// $1: creates a job.
+/// $1: creates a job, owned by the job that D1 names, or by nobody where D1 is negative.
 pub fn create(registers: &mut Registers, picture: &mut [u32]) -> Answer {
-    let owner = if (registers[D1] as i32) < 0 {
-        NOBODY
-    } else if live_job(picture, JobNumber(registers[D1])).is_some() {
-        picture[CURRENT]
-    } else {
+    let owner = if (registers[D1] as i32) < 0 { NOBODY } else { registers[D1] };
+    if owner != NOBODY && live_job(picture, JobNumber(owner)).is_none() {
         return Err(INVALID_JOB);
-    };
+    }
     if registers[D3] < LEAST_DATA {
         return Err(BAD_PARAMETER);
     }
@@ -311,18 +308,146 @@ mod tests {
         assert_eq!(desk.create(0, 0, 4).0, INVALID_JOB);
     }
 
+    /// Creates a job and sees that it is the owner's, in its record and in its block's header, and that the caller goes on.
+    fn create_and_see_owner(desk: &mut Desk, d1: u32, owner: u32) {
+        let caller = desk.current();
+        let (key, after) = desk.create(d1, 0, 4);
+        assert_eq!(key, 0);
+        assert_eq!(desk.record(after[D1])[..2], [after[D1], owner]);
+        assert_eq!(desk.record(after[D1])[3..], [0; 5]);
+        assert_eq!(desk.header((after[A0] / 4) as usize - 4), [32, block::JOB, owner, 0x4000]);
+        assert_eq!(desk.current(), caller);
+    }
+
     #[test]
-    fn a_new_job_is_the_callers_whoever_is_named() {
+    fn d1_names_the_owner_of_a_new_job() {
         let mut desk = Desk::fresh();
         let child = desk.job(true, 9);
-        let stranger = desk.job(false, 0);
-        desk.picture[CURRENT] = child;
-        for (d1, owner) in [(0, child), (stranger, child), (child, child), (MINUS_1, NOBODY), (0x8000_0000, NOBODY)] {
-            let (_, after) = desk.create(d1, 0, 4);
-            assert_eq!(desk.record(after[D1])[..2], [after[D1], owner]);
-            assert_eq!(desk.record(after[D1])[3..], [0; 5]);
-            assert_eq!(desk.header((after[A0] / 4) as usize - 4), [32, block::JOB, owner, 0x4000]);
+        let grandchild = desk.job_of(child, 8);
+        let sister = desk.job_of(0, 7);
+        let stranger = desk.job(false, 6);
+        let inactive = desk.job_of(stranger, 0);
+        let suspended = desk.job_of(child, 5);
+        let waiting = desk.job_of(stranger, 4);
+        *desk.field(suspended, job::TIMEOUT) = 3;
+        *desk.field(waiting, job::TIMEOUT) = MINUS_1;
+        *desk.field(waiting, job::WAIT) = suspended;
+        let before = desk.picture.clone();
+        for caller in [0, child, grandchild, sister, stranger] {
+            for owner in [0, child, grandchild, sister, stranger, inactive, suspended, waiting] {
+                desk.picture.clone_from(&before);
+                desk.picture[CURRENT] = caller;
+                create_and_see_owner(&mut desk, owner, owner);
+            }
         }
+    }
+
+    #[test]
+    fn nobody_owns_a_new_job_where_d1_is_negative() {
+        let mut desk = Desk::fresh();
+        let child = desk.job(true, 9);
+        let negative = [MINUS_1, 0x8000_0000, child | 0x8000_0000, 0x8000_FFFF, 0xFFFF_0000, 0xFFFF_7FFF, 0xFFFF_FFFE];
+        for caller in [0, child] {
+            desk.picture[CURRENT] = caller;
+            for d1 in negative {
+                create_and_see_owner(&mut desk, d1, NOBODY);
+            }
+        }
+    }
+
+    #[test]
+    fn creating_for_another_checks_in_the_same_order() {
+        let mut desk = Desk::sized(1_536, 128);
+        let caller = desk.job(true, 9);
+        let owner = desk.job(false, 0);
+        let dead = owner + 0x1_0000;
+        desk.picture[CURRENT] = caller;
+        for d1 in [dead, position(owner) as u32, owner | 0x8000, 0xFFFF, 0x8000] {
+            assert_eq!(desk.create(d1, MINUS_1, 3).0, INVALID_JOB);
+        }
+        assert_eq!(desk.create(owner, MINUS_1, 3).0, BAD_PARAMETER);
+        assert_eq!(desk.create(owner, MINUS_1, 4).0, OUT_OF_MEMORY);
+        while desk.picture[JOB_MASK] != u32::MAX {
+            create_and_see_owner(&mut desk, owner, owner);
+        }
+        assert_eq!(desk.create(owner, 0, 3).0, BAD_PARAMETER);
+        assert_eq!(desk.create(owner, MINUS_1, 4).0, INVALID_JOB);
+        let leaf = desk.picture[job_record(31)];
+        assert_eq!(desk.job_call(0x5, leaf, 0, 0, 0).0, 0);
+        desk.picture[CURRENT] = caller;
+        desk.picture[LAST_JOB_TAG] = LAST_TAG;
+        assert_eq!(desk.create(owner, 0, 3).0, BAD_PARAMETER);
+        assert_eq!(desk.create(owner, MINUS_1, 4).0, INVALID_JOB);
+        desk.picture[LAST_JOB_TAG] = LAST_TAG - 1;
+        assert_eq!(desk.create(owner, MINUS_1, 4).0, OUT_OF_MEMORY);
+        create_and_see_owner(&mut desk, owner, owner);
+    }
+
+    /// A launcher under job 0 is current. It has made a desk that nobody owns, and for the desk a helper, which has memory
+    /// and a queue.
+    fn launched() -> (Desk, [u32; 3]) {
+        let mut desk = Desk::fresh();
+        let launcher = desk.job(true, 9);
+        desk.picture[CURRENT] = launcher;
+        let owner = desk.job(false, 0);
+        let helper = desk.job_of(owner, 0);
+        assert_eq!(desk.take(20, helper).0, 0);
+        assert_eq!(desk.open(helper, b"PIPE_8").0, 0);
+        (desk, [launcher, owner, helper])
+    }
+
+    #[test]
+    fn a_new_job_goes_with_the_owner_that_was_named() {
+        let (mut desk, [launcher, owner, helper]) = launched();
+        assert_eq!(desk.job_call(0x4, owner, 0, 0, 0), (0, [0; 8]));
+        for gone in [owner, helper] {
+            assert!(live_job(&desk.picture, JobNumber(gone)).is_none());
+        }
+        assert!(live_job(&desk.picture, JobNumber(launcher)).is_some());
+        assert_eq!(desk.picture[CHANNEL_MASK], 0);
+        assert_eq!(desk.header(HEAP), [1_024, block::FREE, 0, 0]);
+    }
+
+    #[test]
+    fn a_new_job_stays_where_its_maker_ends() {
+        let (mut desk, [launcher, owner, helper]) = launched();
+        assert_eq!(desk.job_call(0x5, launcher, 0, 0, 0), (0, [0; 8]));
+        assert!(live_job(&desk.picture, JobNumber(launcher)).is_none());
+        for stays in [owner, helper] {
+            assert!(live_job(&desk.picture, JobNumber(stays)).is_some());
+        }
+        assert_eq!(desk.picture[CHANNEL_MASK], 1);
+        assert_eq!(desk.header(HEAP)[..3], [48, block::PLAIN, helper]);
+        // Its owner still has it.
+        desk.pick();
+        assert_eq!(desk.job_call(0x2, helper, owner, 0, 0).1[D2], owner);
+        assert_eq!(desk.job_call(0x4, owner, 0, 0, 0).0, 0);
+        assert_eq!(desk.picture[JOB_MASK], 1);
+    }
+
+    #[test]
+    fn an_active_helper_keeps_its_owner_from_ordinary_removal_and_not_its_maker() {
+        let (mut desk, [launcher, owner, helper]) = launched();
+        *desk.field(helper, job::PRIORITY) = 1;
+        assert_eq!(desk.job_call(0x4, owner, 0, 0, 0).0, NOT_COMPLETE);
+        desk.picture[CURRENT] = 0;
+        *desk.field(launcher, job::PRIORITY) = 0;
+        assert_eq!(desk.job_call(0x4, launcher, 0, 0, 0).0, 0);
+        assert!(live_job(&desk.picture, JobNumber(helper)).is_some());
+    }
+
+    #[test]
+    fn a_job_may_be_created_for_an_owner_above_its_maker() {
+        let mut desk = Desk::fresh();
+        let child = desk.job(true, 9);
+        let grandchild = desk.job_of(child, 8);
+        desk.picture[CURRENT] = grandchild;
+        let [aunt, sister] = [0, child].map(|owner| desk.job_of(owner, 0));
+        assert_eq!(desk.job_call(0x5, grandchild, 0, 0, 0).0, 0);
+        assert_eq!(tree(&desk.picture, position(child)), 1 << position(child) | 1 << position(sister));
+        desk.pick();
+        assert_eq!(desk.job_call(0x5, child, 0, 0, 0).0, 0);
+        assert_eq!(desk.picture[JOB_MASK], 1 | 1 << position(aunt));
     }
 
     #[test]

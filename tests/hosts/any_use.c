@@ -140,11 +140,12 @@ static void calls(void)
     expect("a tick", krowjyvan_tick(picture, N), KROWJYVAN_DONE);
 }
 
-/* Creates a job for the current one. */
-static uint32_t created(uint32_t *picture)
+/* Creates a job for its owner. */
+static uint32_t created(uint32_t *picture, uint32_t owner)
 {
     uint32_t registers[KROWJYVAN_REGISTERS] = {KROWJYVAN_MT_CJOB, 0, 0, 4, 0, 0, 0, 0};
 
+    registers[KROWJYVAN_D1] = owner;
     expect("a job", krowjyvan_call(picture, N, KROWJYVAN_TRAP_1, registers, 8, NULL, 0), KROWJYVAN_DONE);
     return registers[KROWJYVAN_D1];
 }
@@ -171,8 +172,8 @@ static void reports(void)
     size_t count;
 
     expect("fresh", krowjyvan_fresh(picture, N, N, H), KROWJYVAN_DONE);
-    first = created(picture);
-    second = created(picture);
+    first = created(picture, 0);
+    second = created(picture, first);
     registers[KROWJYVAN_D1] = second;
     expect("a suspended job", krowjyvan_call(picture, N, KROWJYVAN_TRAP_1, registers, 8, NULL, 0), KROWJYVAN_DONE);
     memcpy(before, picture, sizeof before);
@@ -184,10 +185,10 @@ static void reports(void)
         }
         line(0, 0, KROWJYVAN_NOBODY, 0, 32, 0);
         line(1, first, 0, 1, 0, 0);
-        line(2, second, 0, 1, 0, 1);
+        line(2, second, first, 2, 0, 1);
         expect("one line", reported(picture, N, second, KROWJYVAN_LINE_LONGWORDS, fills[f], &count), KROWJYVAN_DONE);
         expect("its count", (int64_t)count, 1);
-        line(0, second, 0, 0, 0, 1);
+        line(0, second, first, 0, 0, 1);
         expect("four longwords", reported(picture, N, second, KROWJYVAN_LINE_LONGWORDS - 1, fills[f], &count), KROWJYVAN_BUFFER_OVERFLOW);
     }
     for (size_t lent = 0; lent <= LONGEST_TABLE; lent += LONGEST_TABLE) {
@@ -201,7 +202,7 @@ static void reports(void)
     expect("its second line", lines[1][KROWJYVAN_LINE_NUMBER], first);
     expect("a pick", krowjyvan_pick(picture, N, &number), KROWJYVAN_DONE);
     while (picture[KROWJYVAN_JOB_MASK_WORD] != 0xFFFFFFFF)
-        created(picture);
+        created(picture, second);
     expect("a line too few", reported(picture, N, 0, (KROWJYVAN_JOBS - 1) * KROWJYVAN_LINE_LONGWORDS, 7, &count), KROWJYVAN_BUFFER_OVERFLOW);
     expect("as many lines as there are jobs", reported(picture, N, 0, KROWJYVAN_JOBS * KROWJYVAN_LINE_LONGWORDS, 7, &count), KROWJYVAN_DONE);
     expect("their count", (int64_t)count, KROWJYVAN_JOBS);

@@ -1,7 +1,7 @@
 -- The ways out of the call, one law each.
 use Prim.Native.Nat.{ℕ, _≤_, _<_}
-use mathlib.Core.Path.{_≡_, sym, ap, _∙_}
-use mathlib.Core.Bool.{true, false}
+use mathlib.Core.Path.{_≡_, refl, sym, ap, _∙_}
+use mathlib.Core.Bool.{Bool, true, false, cond}
 use mathlib.Core.List.{List}
 use lib.IntN.{ℤ}
 use borrow.Author.Tests.{lt-ltb, le-ltb, le-leb, lt-leb}
@@ -21,7 +21,7 @@ use Rattle.rooms.specs.Room.{spot, room-at, header-byte}
 use Rattle.rooms.proofs.Room.{placed-there}
 use Rattle.calls.specs.Outcome.{refuse, succeed, Meets}
 use Rattle.calls.specs.Call.{outcome}
-use Rattle.calls.specs.Registers.{D1, D3, A1, caller}
+use Rattle.calls.specs.Registers.{D1, D3, A1}
 use Rattle.calls.proofs.Outcome.{meets-refuse, meets-succeed}
 use Rattle.entering.specs.Entry.{has-position, has-tag, next-tag, next-number, entered}
 use Rattle.creating.specs.Create.{negative, owner-found, owner-check, owner-in, least-data, job-length, created, job-registers, create}
@@ -34,13 +34,23 @@ module _ (p : List ℕ) (n : ℕ) where
   unfolding owner-found
   found-nobody h = rw h
 
-  pub found-caller : negative n ≡ false → live p Jobs n ≡ true → owner-found p n ≡ Of (caller p)
+  pub found-live : negative n ≡ false → live p Jobs n ≡ true → owner-found p n ≡ Of n
   unfolding owner-found
-  found-caller h l = rw (h, l)
+  found-live h l = rw (h, l)
 
   pub found-dead : negative n ≡ false → live p Jobs n ≡ false → owner-found p n ≡ Dead
   unfolding owner-found
   found-dead h l = rw (h, l)
+
+  -- what holds of no owner, of the live job named and of a dead number, each where it is found, holds of whatever is found
+  pub found-each : (P : OwnerFound → Type 0) → (negative n ≡ true → P (Of nobody)) → (negative n ≡ false → live p Jobs n ≡ true → P (Of n)) → (negative n ≡ false → live p Jobs n ≡ false → P Dead) → P (owner-found p n)
+  unfolding owner-found
+  found-each P none named dead = go (negative n) refl (live p Jobs n) refl
+    where
+      go : (a : Bool) → negative n ≡ a → (b : Bool) → live p Jobs n ≡ b → P (cond a (Of nobody) (cond b (Of n) Dead))
+      go true a b e = none a
+      go false a true e = named a e
+      go false a false e = dead a e
 
 -- a position and a tag, from the tests of the code
 module _ (p : List ℕ) (t : Table) where

@@ -12,7 +12,7 @@ use Rattle.blocks.specs.Header.{job-kind}
 use Rattle.placing.specs.Place.{placed}
 use Rattle.rooms.specs.Room.{block-length, spot, room-at, room-check, header-byte, first-byte}
 use Rattle.calls.specs.Call.{Check, Call}
-use Rattle.calls.specs.Registers.{D1, D2, D3, A1, with-D1, with-A0, caller}
+use Rattle.calls.specs.Registers.{D1, D2, D3, A1, with-D1, with-A0}
 use Rattle.entering.specs.Entry.{has-position, has-tag, next-tag, next-number, entered}
 use Rattle.creating.specs.declared.OwnerFound.{OwnerFound}
 use Rattle.creating.specs.declared.OwnerFound.the-variants.{Of, Dead}
@@ -21,9 +21,9 @@ use Rattle.creating.specs.declared.OwnerFound.the-variants.{Of, Dead}
 abbrev pub negative : ℕ → Bool
 negative n = leb 0x8000_0000 n
 
--- rule 76: "no owner; otherwise D1 must be live (-2) and the new job is owned by the caller"
+-- rule 76: "where D1 is negative the new job has no owner; otherwise D1 names its owner", a live job (-2)
 unfoldable pub owner-found : List ℕ → ℕ → OwnerFound
-owner-found p n = cond (negative n) (Of nobody) (cond (live p Jobs n) (Of (caller p)) Dead)
+owner-found p n = cond (negative n) (Of nobody) (cond (live p Jobs n) (Of n) Dead)
 
 -- "D1 must be live (-2)"
 abbrev pub owner-check : OwnerFound → Check

@@ -46,7 +46,7 @@ pub fn owner_for(p: &[u32], n: u32) -> OwnerFound
     let JobFound::At(_) = picture::job_at(p, JobNumber(n)) else {
         return OwnerFound::Dead;
     };
-    OwnerFound::Of(calls::caller_of(p))
+    OwnerFound::Of(n)
 }
 
 // D1 is the number, A0 the first byte of room of the block at i.

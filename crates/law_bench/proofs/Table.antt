@@ -24,6 +24,7 @@ use Rattle.turns.specs.Pick.{preferred, chosen-below, chosen-job, accumulated-a
 use Rattle.manager.specs.Turn.{pick-answer, pick-picture}
 use Rattle.law_picks.specs.Bench.{set-up}
 use Rattle.law_bench.specs.Table.{picks, Table}
+use Rattle.law_bench.proofs.Helper.{helper}
 
 pub table : Table
 unfolding computed fresh clear lowest-clear free-position header fits chosen split placed longer longest with-bit job-at answer meant longest-room length-good room-registers taken take has-position has-tag recorded counted entered owner-found created job-registers create naming prioritized set-priority open-channel trap-one trap-two call-named checked called key-of number-in letter pipe digit number numbered good named outcome with-members set-up picks preferred chosen-below chosen-job accumulated-after turn-given picked picked-number picked-key set-each pick-answer pick-picture
@@ -32,4 +33,5 @@ table = record {
   picked = refl;
   ready-sound = refl;
   full-sound = refl;
+  helper = helper;
 }

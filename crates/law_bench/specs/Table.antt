@@ -1,13 +1,16 @@
--- Document 01, "Desk bench examples" (rules 130 to 133): the cases marked * in a single table, through the door, all from the fresh picture of the session
+-- "Desk bench examples" (rules 130 to 133 and 135): the cases marked * in a single table, through the door, all from the fresh picture of the session
 -- but for the picks, whose picture is set up by hand.
 use Prim.Native.Nat.{ℕ, zero, suc}
 use mathlib.Core.Path.{_≡_}
 use mathlib.Core.Bool.{true}
 use mathlib.Core.List.{List, [], _∷_}
 use lib.IntN.{ℤ}
-use Rattle.picture.specs.Keys.{done, out-of-memory, bad-name, bad-parameter}
-use Rattle.picture.specs.Layout.{greatest-priority}
+use Rattle.picture.specs.Keys.{done, invalid-job, out-of-memory, bad-name, bad-parameter}
+use Rattle.picture.specs.Layout.{greatest-priority, nobody}
+use Rattle.picture.specs.Records.{owner, members}
 use Rattle.picture.specs.Numbers.{number-of}
+use Rattle.picture.specs.declared.Table.the-variants.{Jobs}
+use Rattle.blocks.specs.Header.{holder}
 use Rattle.sound.specs.Sound.{sound}
 use Rattle.fresh.specs.Fresh.{fresh}
 use Rattle.calls.specs.Outcome.{Outcome}
@@ -46,6 +49,10 @@ taking n p = called 1 p (asks 0x18 n 0 0) []
 -- $1 with c bytes of code and n of data
 abbrev pub creating : ℕ → ℕ → Outcome
 creating c n = called 1 start (asks 0x1 0 c n) []
+
+-- $1 with D1 n, no code and 4 bytes of data, after the calls that led to p
+abbrev pub creating-for : ℕ → List ℕ → Outcome
+creating-for n p = called 1 p (asks 0x1 n 0 4) []
 
 -- $B with this priority for job 0
 abbrev pub prioritizing : ℕ → Outcome
@@ -103,9 +110,45 @@ one = number-of 1 1
 abbrev pub two : ℕ
 two = number-of 2 2
 
--- THE TABLE: the calls; the picks, "0, 2, 1, 2, 0, 1, 2, 0"; their picture is sound, and so is the full house in which a job waits as long as demand 3 lets it
+-- the pictures after job 0 has created desk four, and a helper for it
+abbrev pub desk : List ℕ
+desk = creating 60 40 .picture
+
+abbrev pub helped : List ℕ
+helped = creating-for one desk .picture
+
+-- the picture after a helper that nobody owns, and after desk four was ended, with its helper, and job 0 was picked
+abbrev pub unowned : List ℕ
+unowned = creating-for 0x8000_0000 desk .picture
+
+abbrev pub desk-ended : List ℕ
+desk-ended = pick-picture (called 1 helped (asks 0x5 one 0 0) [] .picture)
+
+abbrev pub helper-cases : List Case
+helper-cases =
+    -- "Create for desk four: number $00020002, A0 2,736. With D1 $0000FFFF: -2. Without desk four: -2."
+    case (creating-for one desk) done two 2736 ∷
+    case (creating-for 0xFFFF desk) invalid-job 0xFFFF 0 ∷
+    case (creating-for one start) invalid-job one 0 ∷
+    -- "End desk four, pick: $6 answers 1,488."
+    case (called 1 desk-ended (asks 0x6 0 0 0) []) done 1488 0 ∷ []
+
+-- the owner that the record of position 2 and the header at longword 680, which is byte 2,720, hold
+abbrev pub owner-told : List ℕ → List ℕ
+owner-told p = owner p Jobs 2 ∷ holder p 680 ∷ []
+
+-- a helper for desk four: the calls; who owns it, and who owns it where D1 is negative; job 0 alone is left when desk four has ended
+pub record Helper : Type 0 where
+  pub calls : Answered helper-cases
+  pub desk-told : owner-told helped ≡ one ∷ one ∷ []
+  pub nobody-told : owner-told unowned ≡ nobody ∷ nobody ∷ []
+  pub job-zero-left : members desk-ended Jobs ≡ 1
+
+-- THE TABLE: the calls; the picks, "0, 2, 1, 2, 0, 1, 2, 0"; their picture is sound, and so is the full house in which a job waits as long as demand 3 lets it;
+-- the helper
 pub record Table : Type 0 where
   pub calls : Answered cases
   pub picked : picks 8 ready-at ≡ 0 ∷ two ∷ one ∷ two ∷ 0 ∷ one ∷ two ∷ 0 ∷ []
   pub ready-sound : sound ready-at ≡ true
   pub full-sound : sound (full-house greatest-priority) ≡ true
+  pub helper : Helper

@@ -1,6 +1,6 @@
 -- A picture whose longwords before the heap are the same keeps what soundness says of them.
 use Prim.Native.Nat.{ℕ, _+_, _<_}
-use mathlib.Core.Path.{_≡_, sym, _∙_}
+use mathlib.Core.Path.{_≡_, refl, sym, _∙_}
 use mathlib.Core.Bool.{Bool, true}
 use mathlib.Core.List.{List}
 use native.Mathlib.Omega.{arith}
@@ -24,6 +24,9 @@ use Rattle.sound_facts.proofs.Sizes.{Fixed, sizes-kept}
 pub record TablesSame (p q : List ℕ) : Type 0 where
   pub words : (j : ℕ) → j < heap-base → word q j ≡ word p j
   pub long : length q ≡ length p
+
+pub tables-still : (p : List ℕ) → TablesSame p p
+tables-still p = record { words = λ j l. refl; long = refl }
 
 module _ (p q : List ℕ) (s : TablesSame p q) where
   pub field-same : (t : Table) (k f : ℕ) → k < positions t → f < width t → field q t k f ≡ field p t k f

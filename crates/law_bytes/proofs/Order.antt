@@ -1,13 +1,14 @@
 -- The order of bytes over a history: each event keeps it, so all of them do; and a channel opened begins with no byte.
 use Prim.Native.Nat.{ℕ}
 use mathlib.Core.Path.{_≡_, refl, sym, ap, _∙_}
-use mathlib.Core.Bool.{Bool, true, false}
+use mathlib.Core.Bool.{true}
 use mathlib.Core.List.{List, [], _∷_, _++_, append-assoc, append-nil}
 use native.Mathlib.Omega.{arith}
 use lib.ListN.{length, length-set}
 use lib.Seq.{getD-set-same, getD-set-other}
 use Rattle.words.specs.Words.{word, put}
 use Rattle.words.specs.Signed.{bits}
+use Rattle.words.proofs.Tests.{otherwise}
 use Rattle.picture.specs.Keys.{done}
 use Rattle.picture.specs.Numbers.{live}
 use Rattle.picture.specs.declared.Table.the-variants.{Channels}
@@ -42,11 +43,6 @@ order-of-bytes p s n (e ∷ events) a l =
     ∙ sym (append-assoc (fetched-by n e p) (bytes-at q n) (sent-to n events q))
     ∙ ap (λ (x : List ℕ). x ++ sent-to n events q) (event-keeps-the-order p s n e a m)
     ∙ append-assoc (bytes-at p n) (sent-by n e p) (sent-to n events q)
-
--- a test that cannot pass
-otherwise : (b : Bool) → (b ≡ true → ⊥) → b ≡ false
-otherwise true n = absurd (n refl)
-otherwise false n = refl
 
 -- the registers after an opening
 opened-A0 : (o c v : ℕ) (d : List ℕ) → length d ≡ 8 → A0 (put (channel-registers o c d) 0 v) ≡ c

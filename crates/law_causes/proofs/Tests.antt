@@ -17,7 +17,7 @@ use Rattle.words.specs.Each.{any}
 use Rattle.words.proofs.Tests.{lt-or-ge, false-true, both}
 use Rattle.words.proofs.Each.{any-some, some-any}
 use Rattle.picture.specs.Keys.{not-complete, invalid-job, out-of-memory, channel-not-open, bad-parameter}
-use Rattle.picture.specs.Layout.{nobody, positions, last-word, greatest-tag, greatest-priority, greatest-timeout}
+use Rattle.picture.specs.Layout.{positions, last-word, greatest-tag, greatest-priority, greatest-timeout}
 use Rattle.picture.specs.Records.{number, priority, used, active, members}
 use Rattle.picture.specs.Numbers.{position, live, job-at, channel-at, free-position}
 use Rattle.picture.specs.declared.Table.{Table}
@@ -44,15 +44,15 @@ use Rattle.effects.specs.Effects.{suspends, may-wait, activity-good, priority-g
 use Rattle.entering.specs.Entry.{has-position, has-tag}
 use Rattle.rooms.specs.Room.{room-at, room-check, first-byte}
 use Rattle.rooms.proofs.Room.{has-room, no-room-without-a-long-enough-block, without-a-long-enough-block-where-no-room, the-check-passes-where-there-is-room, the-check-fails-where-there-is-no-room}
-use Rattle.creating.specs.Create.{negative, owner-found, owner-check}
-use Rattle.creating.specs.declared.OwnerFound.the-variants as owner
+use Rattle.creating.specs.Create.{owner-found, owner-check}
+use Rattle.creating.proofs.Ways.{found-each}
 use Rattle.memory.specs.Memory.{length-good, plain-room, is-plain-room}
 use Rattle.queues.specs.Ring.{waits, full, contents, listed, index}
 use Rattle.queues.specs.Bytes.{byte-at}
 use Rattle.queues.proofs.Ring.{waits-tells}
 use Rattle.channels.specs.Effects.{queue-of, immediate}
 use Rattle.channels.proofs.Found.{live-queue}
-use Rattle.calls.specs.Registers.{D3, caller}
+use Rattle.calls.specs.Registers.{D3}
 use Rattle.law_causes.specs.Faults.{Names, Suspending, Activating, Fault, Wrong, not-live, owner-not-live, below-four, positions-used-up, tags-used-up, no-block-long-enough, job-active, priority-outside, suspension-outside, activation-outside, length-outside, no-plain-block, timeout-not-zero, queue-empty, queue-full}
 use Rattle.law_causes.proofs.Matching.{Tells}
 
@@ -108,13 +108,10 @@ module _ (p d s : List ℕ) where
         go false e = record { fails = λ _. ((λ N. false-true (sym e ∙ names-live Channels n N)), refl); passes = λ z. absurd (false-true z) }
 
     pub tells-owner : (n : ℕ) → Tells (W (owner-not-live n)) (owner-check (owner-found p n)) invalid-job
-    unfolding owner-found
-    tells-owner n = go (negative n) refl (live p Jobs n) refl
-      where
-        go : (a : Bool) → negative n ≡ a → (b : Bool) → live p Jobs n ≡ b → Tells (W (owner-not-live n)) (owner-check (cond a (owner.Of nobody) (cond b (owner.Of (caller p)) owner.Dead))) invalid-job
-        go true a b e = record { fails = λ z. absurd (false-true (sym z)); passes = λ _ w. let l = leb-true 0x8000_0000 n a in let m = w .0 in absurd (omega arith) }
-        go false a true e = record { fails = λ z. absurd (false-true (sym z)); passes = λ _ w. w .1 (live-names Jobs n e) }
-        go false a false e = record { fails = λ _. ((leb-false 0x8000_0000 n a, λ N. false-true (sym e ∙ names-live Jobs n N)), refl); passes = λ z. absurd (false-true z) }
+    tells-owner n = found-each p n (λ f. Tells (W (owner-not-live n)) (owner-check f) invalid-job)
+        (λ a. record { fails = λ z. absurd (false-true (sym z)); passes = λ _ w. let l = leb-true 0x8000_0000 n a in let m = w .0 in absurd (omega arith) })
+        (λ a e. record { fails = λ z. absurd (false-true (sym z)); passes = λ _ w. w .1 (live-names Jobs n e) })
+        (λ a e. record { fails = λ _. ((leb-false 0x8000_0000 n a, λ N. false-true (sym e ∙ names-live Jobs n N)), refl); passes = λ z. absurd (false-true z) })
 
     pub tells-tag : (t : Table) (k : ℤ) → Tells (W (tags-used-up t)) (has-tag p t, k) k
     unfolding has-tag

@@ -99,7 +99,7 @@ module _ (p : List ℕ) (n : ℕ) (s : sound p ≡ true) (l : live p Channels n 
       change-then p r q Heap None (Only at) (giving-back-is-a-change p Heap at (S .tiled Heap) (lies Heap)) lies
       (from-same p q z) (upto-same p q z (low size-word (omega arith) (spares-size Channels))) areas
 
-  jobs-same : JobsSame p q
+  pub jobs-same : JobsSame p q
   jobs-same = record {
     fields = λ j f a b. low (slot Jobs j + f) (omega arith) (spares-past Channels (slot Jobs j + f) (omega arith));
     mask = members-same p q Jobs (λ j h. let l = holds-low Jobs j h in low j (omega arith) (spares-other Channels Jobs jobs-apart j h));

@@ -251,7 +251,7 @@ module _ (p d : List ℕ) (h : sound p ≡ true) (c : Checked p d) where
       taken Jobs i e x z = let f : kind p at ≡ 0 = eqb-true _ _ (the.at-free p d h c) in let y : kind p at ≡ job-kind = rw x at z in omega arith
       taken Channels i e x z = no-job e
 
-  created-sound : sound (created p d) ≡ true
+  pub created-sound : sound (created p d) ≡ true
   created-sound = sound-again (created p d) (record {
     sizes = sizes;
     jobs = jobs;

@@ -3,3 +3,4 @@ pub mod Ways
 pub mod Made
 pub mod Kept
 pub mod Others
+pub mod New

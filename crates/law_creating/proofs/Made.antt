@@ -1,8 +1,8 @@
 -- A job made in a sound picture: its entry, its block, and what has changed.
 use Prim.Native.Nat.{ℕ, _+_, _-_, _%_, _≤_, _<_}
 use mathlib.Core.Path.{_≡_, refl, _∙_}
-use mathlib.Core.Bool.{Bool, true, false, cond}
-use mathlib.Core.Logic.{⊎-elim, _⊎_, inl, inr}
+use mathlib.Core.Bool.{true, false}
+use mathlib.Core.Logic.{_⊎_, inl, inr}
 use mathlib.Core.List.{List}
 use lib.ListN.{length}
 use native.Mathlib.Omega.{arith}
@@ -30,15 +30,15 @@ use Rattle.sound_facts.proofs.Same.{starts-between}
 use Rattle.rooms.specs.Room.{block-length, spot, header-byte}
 use Rattle.rooms.proofs.Room.{spot-is-free-and-enough}
 use Rattle.rooms.proofs.Sizes.{Lies, areas-lie-in-a-sound-picture}
-use Rattle.calls.specs.Registers.{D1, D2, D3, A1, caller}
+use Rattle.calls.specs.Registers.{D1, D2, D3, A1}
 use Rattle.entering.specs.Entry.{has-position, has-tag, next-tag}
 use Rattle.law_entering.proofs.Written.{Entered, entered-is, entering-keeps-the-areas, entered-after}
 use Rattle.law_entering.proofs.Kept.{free-position-is-free, low-other}
 use Rattle.law_blocks.proofs.Tables.{TablesSame}
 use Rattle.law_blocks.proofs.Change.{Change, from-same, upto-same, change-then}
 use Rattle.law_blocks.proofs.Placing.{None, Only, placed-facts, placing-keeps-the-tables, placing-is-a-change}
-use Rattle.creating.specs.Create.{negative, owner-found, owner-in, job-length, created}
-use Rattle.creating.specs.declared.OwnerFound.the-variants.{Of, Dead}
+use Rattle.creating.specs.Create.{owner-found, owner-in, job-length, created}
+use Rattle.creating.proofs.Ways.{found-each}
 use Rattle.law_creating.proofs.Ways.{Checked}
 
 length-in-units : (n : ℕ) → block-length n % 16 ≡ 0
@@ -83,16 +83,7 @@ module _ (p d : List ℕ) (h : sound p ≡ true) (c : Checked p d) where
 
   -- the owner is nobody or live
   pub owner-nobody-or-live : (owner ≡ nobody) ⊎ (live p Jobs owner ≡ true)
-  unfolding owner-found
-  owner-nobody-or-live = go (negative (D1 d)) (live p Jobs (D1 d))
-    where
-      found : Bool → Bool → ℕ
-      found b c = owner-in (cond b (Of nobody) (cond c (Of (caller p)) Dead))
-
-      go : (b c : Bool) → (found b c ≡ nobody) ⊎ (live p Jobs (found b c) ≡ true)
-      go true c = inl refl
-      go false true = ⊎-elim inl (λ e. inr (e .0)) (S .current)
-      go false false = inl refl
+  owner-nobody-or-live = found-each p (D1 d) (λ f. (owner-in f ≡ nobody) ⊎ (live p Jobs (owner-in f) ≡ true)) (λ _. inl refl) (λ _ l. inr l) (λ _ _. inl refl)
 
   -- first the block
   pub block-facts : Placed p r (from p Transient) (upto p Transient) at (job-length d) job-kind owner (A1 d)

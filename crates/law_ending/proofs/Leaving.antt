@@ -9,7 +9,7 @@ use native.Mathlib.Omega.{arith}
 use borrow.Author.Tests.{eq-eqb, ne-eqb, not-true}
 use Rattle.words.specs.Words.{word}
 use Rattle.words.specs.Bits.{bit}
-use Rattle.words.proofs.Tests.{both, false-true}
+use Rattle.words.proofs.Tests.{both, false-true, otherwise}
 use Rattle.picture.specs.Layout.{last-word, width, from, upto, size-word, heap-word}
 use Rattle.picture.specs.Records.{field, base, waited-for, used, timeout-field, wait-field, key-field}
 use Rattle.picture.specs.Numbers.{live}
@@ -32,7 +32,7 @@ use Rattle.ending.specs.Ended.{ended}
 use Rattle.law_ending.specs.Promise.{Member, Leaves}
 use Rattle.law_ending.proofs.Taken.{Taken}
 use Rattle.law_ending.proofs.Areas.{Kept, extra}
-use Rattle.law_ending.proofs.Owned.{named-is, otherwise, a-member-is-named, a-live-number-named-is-a-member}
+use Rattle.law_ending.proofs.Owned.{named-is, a-member-is-named, a-live-number-named-is-a-member}
 use Rattle.law_ending.proofs.Sound.{ended-tables, ended-area}
 use Rattle.law_ending.proofs.OfTheTree.{channel-outside, spared}
 

@@ -8,7 +8,7 @@ use native.Mathlib.Omega.{arith}
 use borrow.Author.Tests.{eq-eqb, ne-eqb, le-leb}
 use Rattle.words.specs.Bits.{bit}
 use Rattle.words.specs.Each.{In}
-use Rattle.words.proofs.Tests.{false-true}
+use Rattle.words.proofs.Tests.{false-true, otherwise}
 use Rattle.picture.specs.Layout.{nobody, positions, from, upto}
 use Rattle.picture.specs.Records.{owner, base, used}
 use Rattle.picture.specs.Numbers.{position, live}
@@ -28,7 +28,7 @@ use Rattle.masks.proofs.Masks.{mask-bit}
 use Rattle.emptying.specs.Taken.{channel-goes, channels-of}
 use Rattle.law_ending.specs.Promise.{Member, OfTheTree}
 use Rattle.law_ending.proofs.Areas.{extra}
-use Rattle.law_ending.proofs.Owned.{named-is, otherwise, a-member-is-named, a-live-number-named-is-a-member}
+use Rattle.law_ending.proofs.Owned.{named-is, a-member-is-named, a-live-number-named-is-a-member}
 
 module _ (p : List ℕ) (S : Sound p) (t : ℕ) (top : used p Jobs t ≡ true) (other : t ≡ 0 → ⊥) where
   member-named : (n : ℕ) → Member p t n → named (tree p t) n ≡ true

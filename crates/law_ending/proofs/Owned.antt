@@ -10,7 +10,7 @@ use borrow.Author.Tests.{eq-eqb, ne-eqb, eqb-true, eqb-false, lt-ltb, ltb-true, 
 use Rattle.words.specs.Words.{word}
 use Rattle.words.specs.Bits.{bit}
 use Rattle.words.specs.Each.{In}
-use Rattle.words.proofs.Tests.{both, false-true, same-test}
+use Rattle.words.proofs.Tests.{both, false-true, same-test, otherwise}
 use Rattle.picture.specs.Layout.{nobody, heap-base, positions, from, upto}
 use Rattle.picture.specs.Records.{number, owner, base, used}
 use Rattle.picture.specs.Numbers.{tag, position, live}
@@ -57,11 +57,6 @@ is-named m n l b = rw (lt-ltb (position n) (positions Jobs) l, b)
 
 pub not-named : (m n : ℕ) → position n < positions Jobs → named m n ≡ false → bit m (position n) ≡ false
 not-named m n l h = sym (rw (lt-ltb (position n) (positions Jobs) l)) ∙ h
-
--- two tests of which one fails where the other passes
-pub otherwise : (b : Bool) → (b ≡ true → ⊥) → b ≡ false
-otherwise true h = absurd (h refl)
-otherwise false h = refl
 
 module _ (p : List ℕ) (S : Sound p) (t : ℕ) where
   O : Owners p

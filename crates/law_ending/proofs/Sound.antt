@@ -12,7 +12,7 @@ use borrow.Author.Tests.{eq-eqb, ne-eqb, eqb-true, eqb-false, leb-true}
 use Rattle.words.specs.Words.{word}
 use Rattle.words.specs.Bits.{bit}
 use Rattle.words.specs.Each.{In}
-use Rattle.words.proofs.Tests.{both, false-true, lt-or-ge}
+use Rattle.words.proofs.Tests.{both, false-true, lt-or-ge, otherwise}
 use Rattle.picture.specs.Layout.{nobody, size-word, current-word, last-word, heap-word, heap-base, positions, width, first-record, from, upto}
 use Rattle.picture.specs.Records.{field, number-field, owner-field, base-field, priority-field, accumulated-field, timeout-field, wait-field, key-field, ending-field, number, owner, base, priority, accumulated, timeout, waited-for, ending, used, ready}
 use Rattle.picture.specs.Numbers.{tag, position, live}
@@ -45,7 +45,7 @@ use Rattle.emptying.specs.Taken.{waits, channels-of}
 use Rattle.ending.specs.Ended.{returned, ended}
 use Rattle.law_ending.proofs.Taken.{going, Taken, taken-tables, taken-above, taken-from, taken-gains, taken-priority}
 use Rattle.law_ending.proofs.Areas.{Kept, extra, returned-long, returned-low, area-kept}
-use Rattle.law_ending.proofs.Owned.{tree-fits, channels-fit, named-is, is-named, not-named, otherwise, owner-outside, block-goes}
+use Rattle.law_ending.proofs.Owned.{tree-fits, channels-fit, named-is, is-named, not-named, owner-outside, block-goes}
 
 -- a block in use that does not go is not the extra one, and its owner is not of the mask
 pub not-going : (p : List ℕ) (m a i : ℕ) → free p i ≡ false → goes p m a i ≡ false → named m (holder p i) ≡ false

@@ -8,7 +8,7 @@ use native.Mathlib.Omega.{arith}
 use borrow.Author.Tests.{eq-eqb, eqb-true, not-true}
 use Rattle.words.specs.Bits.{bit}
 use Rattle.words.specs.Each.{any, In}
-use Rattle.words.proofs.Tests.{both, false-true}
+use Rattle.words.proofs.Tests.{both, false-true, otherwise}
 use Rattle.words.proofs.Each.{any-some, some-any, total-same}
 use Rattle.picture.specs.Layout.{positions, from, upto}
 use Rattle.picture.specs.Records.{base, used, number-field, owner-field, base-field}
@@ -33,7 +33,6 @@ use Rattle.law_ending.specs.Promise.{Gone, OldEntry, OfTheTree, OldBlock
 use Rattle.law_ending.proofs.Taken.{going, Taken}
 use Rattle.law_ending.proofs.Areas.{Kept, extra}
 use Rattle.law_areas.proofs.Lie.{Lies, each-longword-lies-in-a-block, no-longword-lies-in-two-blocks}
-use Rattle.law_ending.proofs.Owned.{otherwise}
 use Rattle.law_ending.proofs.Sound.{ended-tables, ended-area}
 use Rattle.law_ending.proofs.OfTheTree.{member-channel, of-the-tree-goes}
 use Rattle.law_ending.proofs.Leaving.{same-from, same-upto}

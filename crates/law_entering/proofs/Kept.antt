@@ -131,6 +131,19 @@ module _ (p q : List ℕ) (t : Table) (k g o b : ℕ) (E : Entered p q t k g o b
           let v = live-is p t m l in
           is-live q t m (record { used = still-used (position m) (v .used); names = number-old (position m) (used-below p t (position m) (v .used)) (another (position m) (v .used)) ∙ v .names })
 
+  -- what was live keeps its owner
+  pub owner-stays : (u : Table) (m : ℕ) → live p u m ≡ true → owner q u (position m) ≡ owner p u (position m)
+  owner-stays u m l =
+      let v = live-is p u m l .used in
+      let w = places u .wide in
+      field-other u (position m) owner-field (used-below p u (position m) v) (omega arith) (λ z. another (position m) (subst (λ (x : Table). used p x (position m) ≡ true) (z .0) v) (z .1))
+
+  -- the new number is live
+  pub new-is-live : live q t (number-of g k) ≡ true
+  new-is-live =
+      let e = number-position g k small in
+      is-live q t (number-of g k) (record { used = ap (used q t) e ∙ used-here; names = ap (number q t) e ∙ E .its-number })
+
   -- what is live is the new entry, or was live
   live-new-or-old : (m : ℕ) → live q t m ≡ true → (m ≡ number-of g k) ⊎ (live p t m ≡ true)
   live-new-or-old m h =
@@ -149,6 +162,15 @@ module _ (p q : List ℕ) (t : Table) (k g o b : ℕ) (E : Entered p q t k g o b
         }))
         (λ n. ages-same p q u (other-table-last u n) (other-table-mask u n) (λ j l. let w = places u .wide in other-table-field u n j number-field l (omega arith)))
         (same-table t u)
+
+    -- its tag is greater than any given before
+    pub new-was-dead : Entries p t → live p t (number-of g k) ≡ true → ⊥
+    new-was-dead F l =
+        let L = live-is p t (number-of g k) l in
+        let x = F .given (position (number-of g k)) (L .used) in
+        let z : tag (number p t (position (number-of g k))) ≡ tag (number-of g k) = ap tag (L .names) in
+        let w = number-tag g k small in
+        omega arith
 
     pub entering-keeps-the-records : Entries p t → g ≤ greatest-tag → Owned q (may-be-unowned t) o → Entries q t
     unfolding has-block

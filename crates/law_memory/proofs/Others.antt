@@ -1,6 +1,6 @@
 -- The tables stay, and every block in use other than the one taken or given back keeps every longword; the bytes taken and given back are exactly the block's.
 use Prim.Native.Nat.{ℕ, _+_, _-_}
-use mathlib.Core.Path.{_≡_, refl, ap, _∙_}
+use mathlib.Core.Path.{_≡_, ap, _∙_}
 use mathlib.Core.Bool.{Bool, true, false}
 use mathlib.Core.Logic.{⊎-elim, _⊎_, inr}
 use mathlib.Core.List.{List}
@@ -21,16 +21,13 @@ use Rattle.rooms.proofs.Sizes.{areas-lie-in-a-sound-picture}
 use Rattle.calls.specs.Outcome.{Outcome}
 use Rattle.calls.specs.Call.{outcome}
 use Rattle.calls.specs.Registers.{A0}
-use Rattle.law_blocks.proofs.Tables.{TablesSame}
+use Rattle.law_blocks.proofs.Tables.{TablesSame, tables-still}
 use Rattle.law_blocks.proofs.Placing.{None, Only}
 use Rattle.law_blocks.proofs.Freeing.{swept-facts}
 use Rattle.law_blocks.proofs.Intact.{Intact, still-intact, change-keeps-every-other-block}
 use Rattle.memory.specs.Memory.{taken-length, taken, take, block-before, given-back, give-back}
 use Rattle.law_memory.proofs.Ways.{take-ways, take-where-done, give-back-ways, give-back-where-done}
 use Rattle.law_memory.proofs.Kept.{taken-facts, taken-tables, taken-change, a-plain-block, a-used-block, given-back-tables, given-back-change}
-
-tables-still : (p : List ℕ) → TablesSame p p
-tables-still p = record { words = λ j l. refl; long = refl }
 
 pub take-keeps-the-tables : (p d : List ℕ) → sound p ≡ true → TablesSame p (outcome take p d .picture)
 take-keeps-the-tables p d h = take-ways (λ (o : Outcome). TablesSame p (o .picture)) p d (λ k. tables-still p) (λ x y z. taken-tables p d h y z)

@@ -8,7 +8,7 @@ use native.Mathlib.Omega.{arith}
 use Rattle.words.proofs.Tests.{false-true}
 use Rattle.picture.specs.Layout.{positions}
 use Rattle.picture.specs.Records.{number, used, slot, number-field, base-field}
-use Rattle.picture.specs.Numbers.{tag, position, live, free-position}
+use Rattle.picture.specs.Numbers.{position, live, free-position}
 use Rattle.picture.specs.declared.Table.the-variants.{Channels}
 use Rattle.picture.specs.declared.Area.the-variants.{Heap}
 use Rattle.picture.proofs.Numbers.{live-is, is-live}
@@ -22,7 +22,7 @@ use Rattle.calls.specs.Registers.{D1, meant}
 use Rattle.law_blocks.proofs.Placing.{None, Only}
 use Rattle.law_blocks.proofs.Intact.{Intact, change-keeps-every-other-block}
 use Rattle.entering.specs.Entry.{next-tag, next-number}
-use Rattle.law_entering.proofs.Kept.{number-position, number-tag}
+use Rattle.law_entering.proofs.Kept.{number-position, new-was-dead}
 use Rattle.names.specs.Names.{number-in, named}
 use Rattle.names.proofs.Digits.{number-some, number-small}
 use Rattle.queues.specs.Ring.{contents}
@@ -86,14 +86,9 @@ module _ (p d s : List ℕ) (h : sound p ≡ true) (c : Checked p d s) where
   new-position : position (next-number p Channels) ≡ k
   new-position = number-position (next-tag p Channels) k (let t = there in omega arith)
 
-  -- its tag is greater than any given before
   pub a-new-number-was-dead : live p Channels (next-number p Channels) ≡ true → ⊥
-  a-new-number-was-dead l =
-      let L = live-is p Channels (next-number p Channels) l in
-      let g = the.S p o n h (c .place) (c .tagged) (c .room) .channels .entries .given (position (next-number p Channels)) (L .used) in
-      let z : tag (number p Channels (position (next-number p Channels))) ≡ tag (next-number p Channels) = ap tag (L .names) in
-      let w = number-tag (next-tag p Channels) k (let t = there in omega arith) in
-      omega arith
+  a-new-number-was-dead = new-was-dead p _ Channels k (next-tag p Channels) o _ (the.entry p o n h (c .place) (c .tagged) (c .room)) there (the.vacant p o n h (c .place) (c .tagged) (c .room)) (omega arith)
+      (the.S p o n h (c .place) (c .tagged) (c .room) .channels .entries)
 
   pub a-new-channel-is-live : live q Channels (next-number p Channels) ≡ true
   a-new-channel-is-live = is-live q Channels (next-number p Channels) (record {

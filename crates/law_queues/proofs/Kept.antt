@@ -14,11 +14,11 @@ use Rattle.headers.specs.Header.{Outside}
 use Rattle.sound.specs.Sound.{sound}
 use Rattle.sound_facts.proofs.Sound.{Queue, Sound}
 use Rattle.sound_facts.proofs.View.{view, sound-again}
-use Rattle.sound_facts.proofs.Ages.{Ages, ages-still}
+use Rattle.sound_facts.proofs.Ages.{Ages}
 use Rattle.calls.specs.Outcome.{Outcome}
 use Rattle.calls.specs.Call.{outcome}
 use Rattle.calls.specs.Registers.{D1, A0}
-use Rattle.law_blocks.proofs.Tables.{tables-age}
+use Rattle.law_blocks.proofs.Tables.{TablesSame, tables-still, tables-age}
 use Rattle.queues.specs.Bytes.{byte-word}
 use Rattle.queues.specs.Ring.{Ring, index, waits, full, fetched, sent}
 use Rattle.queues.proofs.Ring.{index-below, waits-some, full-not, length-fetched, fetched-other, fetched-oldest, fetched-count, fetched-length, fetched-ring, length-sent, sent-other, sent-count, sent-length, sent-oldest, sent-ring}
@@ -94,16 +94,26 @@ send-keeps-sound p d s = send-ways (λ (o : Outcome). sound (o .picture) ≡ tru
     (λ a b c. let H = live-queue p (A0 d) s a in
     sound-again _ (writing-keeps-sound p (sent p (queue-there p d) (D1 d % 256)) (position (A0 d)) (queue-there p d) (view p s) H (sent-written p (position (A0 d)) (queue-there p d) H (D1 d % 256) (low-byte (D1 d)) c)))
 
+-- the tables stay
+pub fetch-keeps-the-tables : (p d : List ℕ) → sound p ≡ true → TablesSame p (outcome fetch p d .picture)
+fetch-keeps-the-tables p d s = fetch-ways (λ (o : Outcome). TablesSame p (o .picture)) p d (λ k. tables-still p)
+    (λ a b c. let H = live-queue p (A0 d) s a in
+    tables p (fetched p (queue-there p d)) (position (A0 d)) (queue-there p d) (view p s) H (fetched-written p (position (A0 d)) (queue-there p d) H c))
+
+pub send-keeps-the-tables : (p d : List ℕ) → sound p ≡ true → TablesSame p (outcome send p d .picture)
+send-keeps-the-tables p d s = send-ways (λ (o : Outcome). TablesSame p (o .picture)) p d (λ k. tables-still p)
+    (λ a b c. let H = live-queue p (A0 d) s a in
+    tables p (sent p (queue-there p d) (D1 d % 256)) (position (A0 d)) (queue-there p d) (view p s) H (sent-written p (position (A0 d)) (queue-there p d) H (D1 d % 256) (low-byte (D1 d)) c))
+
+pub pending-keeps-the-tables : (p d : List ℕ) → TablesSame p (outcome pending p d .picture)
+pending-keeps-the-tables p d = pending-ways (λ (o : Outcome). TablesSame p (o .picture)) p d (λ k. tables-still p) (tables-still p)
+
 -- tags: none is given
 pub pending-ages : (p d : List ℕ) → sound p ≡ true → (t : Table) → Ages p (outcome pending p d .picture) t
-pending-ages p d s t = pending-ways (λ (o : Outcome). Ages p (o .picture) t) p d (λ k. ages-still p t) (ages-still p t)
+pending-ages p d s t = tables-age p (outcome pending p d .picture) (pending-keeps-the-tables p d) t
 
 pub fetch-ages : (p d : List ℕ) → sound p ≡ true → (t : Table) → Ages p (outcome fetch p d .picture) t
-fetch-ages p d s t = fetch-ways (λ (o : Outcome). Ages p (o .picture) t) p d (λ k. ages-still p t)
-    (λ a b c. let H = live-queue p (A0 d) s a in
-    tables-age p (fetched p (queue-there p d)) (tables p (fetched p (queue-there p d)) (position (A0 d)) (queue-there p d) (view p s) H (fetched-written p (position (A0 d)) (queue-there p d) H c)) t)
+fetch-ages p d s t = tables-age p (outcome fetch p d .picture) (fetch-keeps-the-tables p d s) t
 
 pub send-ages : (p d : List ℕ) → sound p ≡ true → (t : Table) → Ages p (outcome send p d .picture) t
-send-ages p d s t = send-ways (λ (o : Outcome). Ages p (o .picture) t) p d (λ k. ages-still p t)
-    (λ a b c. let H = live-queue p (A0 d) s a in
-    tables-age p (sent p (queue-there p d) (D1 d % 256)) (tables p (sent p (queue-there p d) (D1 d % 256)) (position (A0 d)) (queue-there p d) (view p s) H (sent-written p (position (A0 d)) (queue-there p d) H (D1 d % 256) (low-byte (D1 d)) c)) t)
+send-ages p d s t = tables-age p (outcome send p d .picture) (send-keeps-the-tables p d s) t

@@ -16,6 +16,11 @@ lt-or-ge a b = go (ltb a b) refl
 pub false-true : false ≡ true → ⊥
 false-true h = subst T (sym h) tt
 
+-- a test that cannot pass
+pub otherwise : (b : Bool) → (b ≡ true → ⊥) → b ≡ false
+otherwise true n = absurd (n refl)
+otherwise false n = refl
+
 -- both halves of an `and`
 pub both : (a b : Bool) → a && b ≡ true → (a ≡ true) × (b ≡ true)
 both true b h = (refl, h)

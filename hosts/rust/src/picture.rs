@@ -236,10 +236,10 @@ impl Picture {
         Ok(Information { current: JobNumber(after[D1]), version: after[D2].to_be_bytes() })
     }
 
-    /// MT.CJOB: makes a job, inactive, with so many bytes of code and of data. Without an owner it is independent; with a
-    /// live job there, whichever that is, the current job owns it. The start address is kept and not looked at.
+    /// MT.CJOB: makes a job, inactive, with so many bytes of code and of data. Any live job may be its owner, whichever is
+    /// current; without an owner it is independent. The start address is kept and not looked at.
     ///
-    /// [`Key::INVALID_JOB`] where that job isn't live, or positions or tags are used up; [`Key::BAD_PARAMETER`] for fewer
+    /// [`Key::INVALID_JOB`] where the owner isn't live, or positions or tags are used up; [`Key::BAD_PARAMETER`] for fewer
     /// than 4 bytes of data; [`Key::OUT_OF_MEMORY`].
     pub fn mt_cjob(&mut self, owner: Option<JobNumber>, code: u32, data: u32, start: u32) -> Result<Created, Key> {
         // A negative number would mean no owner. None such is a job's, and the greatest of the others isn't either.

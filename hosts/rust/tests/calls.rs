@@ -30,7 +30,7 @@ fn each_method_is_its_trap() {
     let other = hub.mt_cjob(None, 60, 40, 0).unwrap();
     hub.mt_activ(desk.job, 100, true).unwrap();
     assert_eq!(hub.pick().unwrap().job, Some(desk.job));
-    let helper = hub.mt_cjob(Some(JobNumber::ZERO), 8, 4, 0).unwrap();
+    let helper = hub.mt_cjob(Some(desk.job), 8, 4, 0).unwrap();
     hub.mt_susjb(helper.job, 9).unwrap();
     assert_eq!(hub.pick().unwrap().job, Some(desk.job));
     let room = hub.mt_alchp(20, helper.job).unwrap();
@@ -105,10 +105,35 @@ fn the_owner_of_a_new_job() {
     assert_eq!(hub.mt_cjob(None, 0, 3, 0), Err(Key::BAD_PARAMETER));
     let desk = hub.mt_cjob(None, 0, 4, 0).unwrap().job;
     let helper = hub.mt_cjob(Some(desk), 0, 4, 0).unwrap().job;
+    let of_zero = hub.mt_cjob(Some(JobNumber::ZERO), 0, 4, 0).unwrap().job;
+    assert_eq!(hub.current(), Some(JobNumber::ZERO));
     assert_eq!(hub.mt_jinf(desk, desk).unwrap().owner, None);
-    assert_eq!(hub.mt_jinf(helper, JobNumber::ZERO).unwrap().owner, Some(JobNumber::ZERO));
-    assert_eq!(hub.mt_jinf(helper, desk), Err(Key::INVALID_JOB));
+    assert_eq!(hub.mt_jinf(helper, desk).unwrap().owner, Some(desk));
+    assert_eq!(hub.mt_jinf(of_zero, JobNumber::ZERO).unwrap().owner, Some(JobNumber::ZERO));
+    assert_eq!(hub.mt_jinf(helper, JobNumber::ZERO), Err(Key::INVALID_JOB));
     assert_eq!(hub.mt_jinf(helper, JobNumber::CURRENT), Err(Key::INVALID_JOB));
+}
+
+#[test]
+fn helpers_that_a_launcher_makes_go_with_their_desks() {
+    let mut hub = hub();
+    let tank = hub.mt_cjob(None, 0, 4, 0).unwrap().job;
+    let launcher = hub.mt_cjob(Some(JobNumber::ZERO), 0, 4, 0).unwrap().job;
+    hub.mt_activ(launcher, 64, true).unwrap();
+    assert_eq!(hub.pick().unwrap().job, Some(launcher));
+    let [four, five] = [launcher; 2].map(|owner| hub.mt_cjob(Some(owner), 0, 4, 0).unwrap().job);
+    let [of_four, of_five, of_tank] = [four, five, tank].map(|owner| hub.mt_cjob(Some(owner), 0, 4, 0).unwrap().job);
+    let queue = hub.io_open(of_four, b"PIPE_8").unwrap();
+    let jobs = |hub: &Picture, top| hub.report_tree(top).map(|lines| lines.iter().map(|line| line.number).collect());
+    assert_eq!(jobs(&hub, launcher), Ok(vec![launcher, four, five, of_four, of_five]));
+    hub.mt_rjob(four, 0).unwrap();
+    assert_eq!(jobs(&hub, launcher), Ok(vec![launcher, five, of_five]));
+    hub.pick().unwrap();
+    assert_eq!(hub.io_pend(queue), Err(Key::CHANNEL_NOT_OPEN));
+    assert_eq!(hub.mt_prior(of_four, 1), Err(Key::INVALID_JOB));
+    hub.mt_frjob(launcher, 0).unwrap();
+    assert_eq!(jobs(&hub, JobNumber::ZERO), Ok(vec![JobNumber::ZERO]));
+    assert_eq!(jobs(&hub, tank), Ok(vec![tank, of_tank]));
 }
 
 #[test]

@@ -39,6 +39,9 @@ pub fn listed(maker: &mut Maker) {
     asks(maker);
     suspensions(maker);
     activations(maker);
+    owners(maker);
+    checks_for_another(maker);
+    launched_trees(maker);
 }
 
 pub fn one_more(maker: &mut Maker) {
@@ -444,4 +447,125 @@ fn activations(maker: &mut Maker) {
     call(maker, &world, 0xB, 0xFFFF, 0, 0, 0);
     call(maker, &world, 0x8, 0xFFFF, 0, 0xFFFF, 0);
     call(maker, &world, 0x9, 0xFFFF, 0, 0, 0);
+}
+
+/// $1 by jobs of a family for each of them, and for an inactive, a suspended and a waiting one.
+fn owners(maker: &mut Maker) {
+    let (mut world, child, grandchild, stranger) = family();
+    let sister = world.create_for(0, 4);
+    *world.job_field(sister, job::PRIORITY) = 8;
+    let family = [0, child, grandchild, stranger, sister];
+    for caller in family {
+        world.make_current(caller);
+        for owner in family {
+            call(maker, &world, 0x1, owner, 10, 10, 0x1234);
+        }
+    }
+    let [inactive, suspended, waiting] = [stranger, child, stranger].map(|owner| world.create_for(owner, 4));
+    for (job, timeout, wait) in [(suspended, 6, 0), (waiting, NOBODY, suspended)] {
+        *world.job_field(job, job::PRIORITY) = 9;
+        *world.job_field(job, job::TIMEOUT) = timeout;
+        *world.job_field(job, job::WAIT) = wait;
+    }
+    for caller in [0, child, stranger] {
+        world.make_current(caller);
+        for owner in [inactive, suspended, waiting] {
+            call(maker, &world, 0x1, owner, 10, 10, 0x1234);
+        }
+    }
+}
+
+/// Every check of $1, in its order, where D1 names a job that has nothing to do with the caller.
+fn checks_for_another(maker: &mut Maker) {
+    let (mut world, child, _, stranger) = family();
+    world.make_current(child);
+    for dead in [stranger + 0x1_0000, position(stranger) as u32, stranger | 0x8000] {
+        call(maker, &world, 0x1, dead, NOBODY, 3, 0);
+    }
+    for (code, data) in [(NOBODY, 0), (0, 3), (NOBODY, 4), (0, NOBODY), (1_324, 4), (1_325, 4), (0, 4)] {
+        call(maker, &world, 0x1, stranger, code, data, 0);
+    }
+    let mut full = world.clone();
+    while full.picture[JOB_MASK] != u32::MAX {
+        full.create_for(stranger, 4);
+    }
+    let mut last = world.clone();
+    last.picture[LAST_JOB_TAG] = LAST_TAG;
+    for world in [&full, &last] {
+        for (owner, code, data) in
+            [(stranger + 0x1_0000, 0, 4), (stranger, NOBODY, 3), (stranger, NOBODY, 4), (stranger, 0, 4)]
+        {
+            call(maker, world, 0x1, owner, code, data, 0);
+        }
+    }
+    last.picture[LAST_JOB_TAG] = LAST_TAG - 1;
+    call(maker, &last, 0x1, stranger, NOBODY, 4, 0);
+    call(maker, &last, 0x1, stranger, 0, 4, 0);
+}
+
+/// The jobs of a launcher's picture.
+pub struct Launched {
+    pub launcher: u32,
+    pub desks: [u32; 2],
+    pub helpers: [u32; 2],
+    pub helpers_helper: u32,
+    pub tank: u32,
+    pub tanks_helper: u32,
+}
+
+/// A launcher that job 0 owns is current. It has made two desks for itself, a helper for each, a helper's helper for the
+/// first, and a helper for a tank that nobody owns, with memory and a queue here and there. Only job 0 and it are active.
+pub fn launched() -> (World, Launched) {
+    let mut world = World::new(1_024, 256);
+    let tank = world.create(false, 4);
+    let launcher = world.create(true, 20);
+    *world.job_field(launcher, job::PRIORITY) = 64;
+    world.make_current(launcher);
+    let desks = [launcher; 2].map(|owner| world.create_for(owner, 20));
+    let helpers = desks.map(|owner| world.create_for(owner, 4));
+    let tanks_helper = world.create_for(tank, 4);
+    let helpers_helper = world.create_for(helpers[0], 4);
+    for (memory, queue) in [(helpers[0], tanks_helper), (helpers[1], helpers_helper)] {
+        world.take(memory, 20);
+        world.open(queue, 6);
+    }
+    (world, Launched { launcher, desks, helpers, helpers_helper, tank, tanks_helper })
+}
+
+/// Asks and ends in trees that a launcher has made for others.
+fn launched_trees(maker: &mut Maker) {
+    let (world, jobs) = launched();
+    let Launched { launcher, desks, helpers, helpers_helper, tank, tanks_helper } = jobs;
+    for top in [launcher, desks[0], desks[1], helpers[0], helpers_helper, tank, tanks_helper] {
+        call(maker, &world, 0x5, top, 0, 0x2222, 0);
+    }
+    for top in [launcher, desks[0], helpers[1], tank] {
+        call(maker, &world, 0x4, top, 0, 0x2222, 0);
+    }
+    for top in [launcher, desks[0], tank] {
+        for asked in [helpers[0], helpers[1], helpers_helper, tanks_helper] {
+            call(maker, &world, 0x2, asked, top, 0, 0);
+        }
+    }
+    // An active helper, suspended too, refuses $4 for those above it, and for nobody else.
+    for (active, timeout) in [(helpers[0], 0), (helpers_helper, 9), (tanks_helper, 0)] {
+        let mut world = world.clone();
+        *world.job_field(launcher, job::PRIORITY) = 0;
+        *world.job_field(active, job::PRIORITY) = 1;
+        *world.job_field(active, job::TIMEOUT) = timeout;
+        world.make_current(0);
+        for top in [launcher, desks[0], tank] {
+            call(maker, &world, 0x4, top, 0, 0, 0);
+        }
+    }
+    // The launcher waits for a helper that it has made: the helper's owner ends, or another's.
+    for helper in [helpers[0], tanks_helper] {
+        let mut world = world.clone();
+        *world.job_field(launcher, job::TIMEOUT) = WITHOUT_END as u32;
+        *world.job_field(launcher, job::WAIT) = helper;
+        world.make_current(0);
+        for top in [desks[0], tank] {
+            call(maker, &world, 0x5, top, 0, 0x3333, 0);
+        }
+    }
 }

@@ -2,7 +2,7 @@
 //! sound or are too long, and lines that aren't trials.
 
 use super::damage::{Damage, DAMAGES};
-use super::jobs::{deep, family, shuffled, wide, TREE_MIX};
+use super::jobs::{deep, family, launched, shuffled, wide, Launched, TREE_MIX};
 use super::sound::{change_somewhere, damaged};
 use super::world::{World, LIVELY};
 use super::Maker;
@@ -16,6 +16,7 @@ pub fn listed(maker: &mut Maker) {
     tables(maker);
     shapes(maker);
     removals(maker);
+    launched_trees(maker);
     states(maker);
     unsound(maker);
     too_long(maker);
@@ -147,6 +148,22 @@ fn removals(maker: &mut Maker) {
     world.create_for(again, 4);
     for top in [0, sister, again, jobs[2]] {
         maker.report(top, members(&world, position(top)), &world.picture);
+    }
+}
+
+/// Trees that a launcher has made for others, whole, and with a desk or with the launcher ended.
+fn launched_trees(maker: &mut Maker) {
+    let (world, jobs) = launched();
+    let Launched { launcher, desks, helpers, tank, .. } = jobs;
+    for top in [0, launcher, desks[0], desks[1], helpers[0], tank] {
+        maker.report(top, members(&world, position(top)), &world.picture);
+    }
+    for ended in [desks[0], launcher] {
+        let mut world = world.clone();
+        world.call(1, [0x5, ended, 0, 0, 0, 0, 0, 0], b"");
+        for top in [launcher, desks[1], helpers[0], tank] {
+            maker.report(top, 3, &world.picture);
+        }
     }
 }
 

@@ -142,7 +142,7 @@ fn write_step(step: &Step, line: &mut Vec<u8>) {
     }
 }
 
-/// The report of job 0 where all jobs are under it; before that, mostly a new job of the current one, as small as can be.
+/// The report of job 0 where all jobs are under it; before that, mostly a new job of any of them, as small as can be.
 fn write_toward_a_full_tree(world: &World, random: &mut Random, line: &mut Vec<u8>) {
     if world.picture[JOB_MASK] == u32::MAX {
         write_report(0, line);
@@ -151,7 +151,8 @@ fn write_toward_a_full_tree(world: &World, random: &mut Random, line: &mut Vec<u
     } else if random.once_in(3) {
         write_step(&world.step(random, SessionKind::Reports.mix()), line);
     } else {
-        write_step(&Step::Trap { trap: 1, registers: [0x1, 0, 0, 4, 0, 0, 0, 0], name: Vec::new() }, line);
+        let owner = random.one_of(&world.jobs());
+        write_step(&Step::Trap { trap: 1, registers: [0x1, owner, 0, 4, 0, 0, 0, 0], name: Vec::new() }, line);
     }
 }
 

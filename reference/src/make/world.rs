@@ -204,17 +204,14 @@ impl World {
     /// Creates a job owned by the current job, or by nobody, with so much room.
     pub fn create(&mut self, owned: bool, room: u32) -> u32 {
         let owner = if owned { self.picture[CURRENT] } else { NOBODY };
+        self.create_for(owner, room)
+    }
+
+    /// Creates a job owned by the job with this number, or by nobody, with so much room.
+    pub fn create_for(&mut self, owner: u32, room: u32) -> u32 {
         let (key, after) = self.call(1, [0x1, owner, room - 4, 4, 0, 0x4000, 0, 0], b"");
         assert_eq!(key, 0, "a job of {room} bytes has room");
         after[D1]
-    }
-
-    /// Creates a job owned by the job with this number, which is made current for it; the current job stays.
-    pub fn create_for(&mut self, owner: u32, room: u32) -> u32 {
-        let current = std::mem::replace(&mut self.picture[CURRENT], owner);
-        let created = self.create(true, room);
-        self.picture[CURRENT] = current;
-        created
     }
 
     pub fn take(&mut self, owner: u32, bytes: u32) -> u32 {

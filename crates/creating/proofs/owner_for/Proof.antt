@@ -1,12 +1,11 @@
 use mathlib.Core.Path.{sym, _∙_}
 use Rattle.calls.proofs.Found.{Found, job-found, job-dead}
-use Rattle.creating.proofs.Ways.{found-nobody, found-caller, found-dead}
+use Rattle.creating.proofs.Ways.{found-nobody, found-live, found-dead}
 use borrow.Author.Needs.{needs}
 use Rattle.creating.proofs.owner_for.Statement.{statement}
 use Rattle.creating.proofs.owner_for.Tie as tie
 use Rattle.creating.proofs.owner_for.Reads as reads
 use Rattle.creating.proofs.owner_for.Lts as lts
-use Rattle.calls.proofs.caller_of.Reads as caller-of-reads
 use Rattle.creating.proofs.is_negative.Reads as is-negative-reads
 use Rattle.picture.proofs.job_at.Reads as job-at-reads
 
@@ -28,11 +27,8 @@ enum-told-2 c = search needs
 returns-2 : tie.Need-returns-2
 returns-2 c = sym (found-dead _ _ (sym (c .before .before .before .before .is-negative .ensures) ∙ c .before .before .before .if1 .left) (job-dead _ _ (sym (c .before .before .job-at .ensures) ∙ c .enum-told2 .given .1)))
 
-caller-of-requires : tie.Need-caller-of-requires
-caller-of-requires c κs = search needs
-
 returns-3 : tie.Need-returns-3
-returns-3 c = rw (c .caller-of .ensures) (sym (found-caller _ _ (sym (c .before .before .before .before .before .is-negative .ensures) ∙ c .before .before .before .before .if1 .left) (job-found _ _ _ (sym (c .before .before .before .job-at .ensures) ∙ c .before .enum-told .given .1) .lives)))
+returns-3 c = sym (found-live _ _ (sym (c .before .before .before .before .is-negative .ensures) ∙ c .before .before .before .if1 .left) (job-found _ _ _ (sym (c .before .before .job-at .ensures) ∙ c .enum-told .given .1) .lives))
 
 pub owner-for-spec : {M : Type 1} → statement M
 owner-for-spec =
@@ -44,5 +40,4 @@ owner-for-spec =
     enum-told
     enum-told-2
     returns-2
-    caller-of-requires
     returns-3)

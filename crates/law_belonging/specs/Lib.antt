@@ -1,0 +1,2 @@
+-- The statements about owners.
+pub mod Belonging

@@ -1,0 +1,1 @@
+// To whom a new job belongs, over whole histories: laws only.
