@@ -11,7 +11,7 @@ use Rattle.words.specs.Words.{word, put}
 use Rattle.words.specs.Signed.{bits}
 use Rattle.words.proofs.Tests.{false-true, otherwise}
 use Rattle.picture.specs.Layout.{nobody}
-use Rattle.picture.specs.Records.{number-field, owner, used}
+use Rattle.picture.specs.Records.{number-field, owner}
 use Rattle.picture.specs.Numbers.{position, live}
 use Rattle.picture.specs.Keys.{done}
 use Rattle.picture.specs.declared.Table.the-variants.{Jobs}
@@ -39,7 +39,7 @@ use Rattle.law_promises.proofs.Done.{where-the-call-is-done}
 use Rattle.law_promises.proofs.Door.{call-keeps-sound}
 use Rattle.law_promises.proofs.History.{run-keeps-sound}
 use Rattle.law_promises.proofs.Ending.{ending-takes-the-tree-and-no-more}
-use Rattle.law_belonging.specs.Belonging.{Belongs, new, NewJobBelongs, BelongsWhileItLives, GoesWith, GoesWithItsOwner, NeverOutlivesItsOwner, NegativeNamesNobody, UnownedEndsAlone}
+use Rattle.law_belonging.specs.Belonging.{Belongs, new, Made, CreatingMakesAJob, NewJobBelongs, BelongsWhileItLives, GoesWith, GoesWithItsOwner, NeverOutlivesItsOwner, NegativeNamesNobody, UnownedEndsAlone}
 use Rattle.law_belonging.proofs.Owners.{owners-stay}
 use Rattle.law_belonging.proofs.Belongs.{belongs}
 use Rattle.law_belonging.proofs.Trees.{under-there, under-before}
@@ -56,14 +56,11 @@ made-D1 n i v d l =
     ∙ getD-set-other (put d 1 n) 4 1 (first-byte i) 0 (λ e. omega arith)
     ∙ getD-set-same d 1 n 0 (omega arith)
 
--- what the checks of $1 and its effect say of the new job
-record Made (p d : List ℕ) (o : Outcome) : Type 0 where
+-- the new job, what the owner's check says, and the owner in the record
+record MadeBy (p d : List ℕ) (o : Outcome) : Type 0 where
+  made : Made p o
   passes : owner-check (owner-found p (D1 d)) .0 ≡ true
-  is-new : live p Jobs (new o) ≡ false
-  lives : live (o .picture) Jobs (new o) ≡ true
   owned : owner (o .picture) Jobs (position (new o)) ≡ owner-in (owner-found p (D1 d))
-  in-the-same : (t k : ℕ) → used p Jobs k ≡ true → Under p t k → Under (o .picture) t k
-  in-no-more : (t k : ℕ) → used p Jobs k ≡ true → Under (o .picture) t k → Under p t k
 
 module _ (p d name : List ℕ) where
   -- the call that D0 names
@@ -71,49 +68,51 @@ module _ (p d name : List ℕ) where
   unfolding trap-one outcome
   is-the-making e = named-one 1 p d name refl ∙ rw e
 
-  makes : length d ≡ 8 → sound p ≡ true → outcome create p d .key ≡ done → Made p d (with-key (outcome create p d))
-  makes l s = create-where-done (λ (o : Outcome). Made p d (with-key o)) p d (λ (c : Checked p d).
+  makes : length d ≡ 8 → sound p ≡ true → outcome create p d .key ≡ done → MadeBy p d (with-key (outcome create p d))
+  makes l s = create-where-done (λ (o : Outcome). MadeBy p d (with-key o)) p d (λ (c : Checked p d).
       let z = made-D1 (next-number p Jobs) (spot p Transient (job-length d)) (bits done) d l in
       let q = created-sound p d s c in
       record {
+        made = record {
+          is-new = rw z (otherwise (live p Jobs (next-number p Jobs)) (new-job-was-dead p d s c));
+          lives = rw z (new-job-lives p d s c);
+          in-the-same = under-there p (created p d) s q (created-keeps-lives p d s c Jobs) (created-keeps-owners p d s c Jobs);
+          in-no-more = under-before p (created p d) s q (created-keeps-lives p d s c Jobs) (created-keeps-owners p d s c Jobs);
+        };
         passes = c .owner;
-        is-new = rw z (otherwise (live p Jobs (next-number p Jobs)) (new-job-was-dead p d s c));
-        lives = rw z (new-job-lives p d s c);
         owned = rw z (new-job-owner p d s c);
-        in-the-same = under-there p (created p d) s q (created-keeps-lives p d s c Jobs) (created-keeps-owners p d s c Jobs);
-        in-no-more = under-before p (created p d) s q (created-keeps-lives p d s c Jobs) (created-keeps-owners p d s c Jobs);
       })
 
-  made : word d 0 ≡ 0x1 → called 1 p d name .key ≡ done → Made p d (called 1 p d name)
-  made e = where-the-call-is-done 1 p d name (Made p d) (λ l s _ k. let z = is-the-making e in rw z (makes l s (rw z at k)))
+  made-by : word d 0 ≡ 0x1 → called 1 p d name .key ≡ done → MadeBy p d (called 1 p d name)
+  made-by e = where-the-call-is-done 1 p d name (MadeBy p d) (λ l s _ k. let z = is-the-making e in rw z (makes l s (rw z at k)))
 
   -- the picture after a call that is done is sound
   sound-after : called 1 p d name .key ≡ done → sound (called 1 p d name .picture) ≡ true
   sound-after k = call-keeps-sound 1 p d name (where-the-call-is-done 1 p d name (λ (x : Outcome). sound p ≡ true) (λ _ s _ _. s) k)
 
+pub creating-makes-a-job : CreatingMakesAJob
+creating-makes-a-job p d name e k = made-by p d name e k .made
+
 pub new-job-belongs : NewJobBelongs
 new-job-belongs p d name a k =
     let o = called 1 p d name in
-    let M = made p d name (a .0) k in
-    record {
-      is-new = M .is-new;
-      belongs = belongs (o .picture) (sound-after p d name k) (new o) (D1 d) (M .lives) (M .owned ∙ the-owner-named p (D1 d) (lt-leb _ _ (a .1)) (M .passes) .1) (not-nobody (D1 d) (a .1));
-      in-the-same = M .in-the-same;
-      in-no-more = M .in-no-more;
-    }
+    let M = made-by p d name (a .0) k in
+    belongs (o .picture) (sound-after p d name k) (new o) (D1 d) (M .made .lives) (M .owned ∙ the-owner-named p (D1 d) (lt-leb _ _ (a .1)) (M .passes) .1) (not-nobody (D1 d) (a .1))
 
 pub negative-names-nobody : NegativeNamesNobody
-negative-names-nobody p d name e l k =
-    let M = made p d name e k in
-    record { is-new = M .is-new; lives = M .lives; unowned = M .owned ∙ ap owner-in (found-nobody p (D1 d) (le-leb _ _ l)) }
+negative-names-nobody p d name e l k = made-by p d name e k .owned ∙ ap owner-in (found-nobody p (D1 d) (le-leb _ _ l))
 
 pub belongs-while-it-lives : BelongsWhileItLives
 belongs-while-it-lives p d name a k events l =
     let o = called 1 p d name in
-    let B = new-job-belongs p d name a k .belongs in
+    let B = new-job-belongs p d name a k in
     let s = sound-after p d name k in
     belongs (run events (o .picture)) (run-keeps-sound events (o .picture) s) (new o) (D1 d) l
     (owners-stay (o .picture) s Jobs (new o) events (B .lives) l ∙ B .in-record) (not-nobody (D1 d) (a .1))
+
+-- a job of the tree that ends is gone
+taken-away : (p e : List ℕ) (o : Outcome) (n : ℕ) → live p Jobs n ≡ true → Ends p e o → Under p (top p e) (position n) → live (o .picture) Jobs n ≡ false
+taken-away p e o n l E w = otherwise (live (o .picture) Jobs n) (λ m. false-true (sym (E .takes .jobs (position n) (live-is p Jobs n l .used) w .unused) ∙ live-is (o .picture) Jobs n m .used))
 
 -- a job outside the tree that ends lives on
 left-alive : (p e : List ℕ) (o : Outcome) (n : ℕ) → live p Jobs n ≡ true → Ends p e o → (Under p (top p e) (position n) → ⊥) → live (o .picture) Jobs n ≡ true
@@ -127,9 +126,9 @@ left-alive p e o n l E out =
 -- what an ending does to a job that belongs to another
 ended-with : (p e : List ℕ) (o : Outcome) (n m : ℕ) → Belongs p n m → Ends p e o → GoesWith p (o .picture) (top p e) n m
 ended-with p e o n m B E =
-    let L = live-is p Jobs n (B .lives) in
     record {
-      taken = λ w. otherwise (live (o .picture) Jobs n) (λ l. false-true (sym (E .takes .jobs (position n) (L .used) (B .in-each (top p e) w) .unused) ∙ live-is (o .picture) Jobs n l .used));
+      taken = λ w. taken-away p e o n (B .lives) E (B .in-each (top p e) w);
+      taken-itself = λ x. taken-away p e o n (B .lives) E (Under.top (sym x));
       left = λ x w. left-alive p e o n (B .lives) E (λ u. w (B .in-no-other (top p e) x u));
     }
 

@@ -126,18 +126,20 @@ desk-ended = pick-picture (called 1 helped (asks 0x5 one 0 0) [] .picture)
 
 abbrev pub helper-cases : List Case
 helper-cases =
-    -- "Create for desk four: number $00020002, A0 2,736. With D1 $0000FFFF: -2. Without desk four: -2."
+    -- "Create for it, D1 $00010001, with 0 and 4: number $00020002, A0 2,736"
     case (creating-for one desk) done two 2736 ∷
+    -- "With D1 $0000FFFF: -2."
     case (creating-for 0xFFFF desk) invalid-job 0xFFFF 0 ∷
+    -- "Without desk four: -2."
     case (creating-for one start) invalid-job one 0 ∷
-    -- "End desk four, pick: $6 answers 1,488."
+    -- "End desk four, pick: job 0 alone is left, and $6 answers 1,488."
     case (called 1 desk-ended (asks 0x6 0 0 0) []) done 1488 0 ∷ []
 
--- the owner that the record of position 2 and the header at longword 680, which is byte 2,720, hold
+-- "longword 25, of the record, and longword 682, of the header": the owner of the job at position 2, and that of the block at byte 2,720
 abbrev pub owner-told : List ℕ → List ℕ
 owner-told p = owner p Jobs 2 ∷ holder p 680 ∷ []
 
--- a helper for desk four: the calls; who owns it, and who owns it where D1 is negative; job 0 alone is left when desk four has ended
+-- a helper for desk four: the calls; both longwords "are $00010001", and "with D1 $80000000 both are $FFFFFFFF"; job 0 alone is left when desk four has ended
 pub record Helper : Type 0 where
   pub calls : Answered helper-cases
   pub desk-told : owner-told helped ≡ one ∷ one ∷ []
