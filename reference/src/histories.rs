@@ -54,6 +54,7 @@ impl History {
         assert!(is_sound(&self.picture), "{:?}", first_broken(&self.picture));
         self.check_waiting();
         self.check_numbers();
+        self.check_positions();
     }
 
     fn call(&mut self, trap: u32, registers: Registers, name: &[u8]) {
@@ -105,6 +106,16 @@ impl History {
             self.live[table] = now;
         }
         self.picture = world.picture;
+    }
+
+    /// The mask names the position that a walk over all records comes to, the first that is all zero.
+    fn check_positions(&self) {
+        let walked = |first: usize, width: usize| {
+            let mut records = self.picture[first..].chunks(width).take(POSITIONS);
+            records.position(|record| record.iter().all(|&longword| longword == 0))
+        };
+        assert_eq!(free_position(self.picture[JOB_MASK]), walked(JOB_RECORDS, JOB_RECORD));
+        assert_eq!(free_position(self.picture[CHANNEL_MASK]), walked(CHANNEL_RECORDS, CHANNEL_RECORD));
     }
 
     fn step(&mut self, random: &mut Random, mix: &[(Act, usize)]) {

@@ -192,6 +192,10 @@ mod tests {
         assert_eq!(free_position(0b1011), Some(2));
         assert_eq!(free_position(0x7FFF_FFFF), Some(31));
         assert_eq!(free_position(0xFFFF_FFFF), None);
+        for k in 0..POSITIONS {
+            assert_eq!(free_position(!(1 << k)), Some(k), "the one that is free");
+            assert_eq!(free_position((1 << k) - 1), Some(k), "the first behind those in use");
+        }
         assert_eq!(positions(0x8000_0005).collect::<Vec<_>>(), [0, 2, 31]);
         assert_eq!(positions(0).count(), 0);
     }

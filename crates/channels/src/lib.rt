@@ -8,7 +8,8 @@ use words::word;
 ghost use mathlib.Core.Path.{_≡_};
 ghost use mathlib.Core.Bool.{true};
 ghost use Prim.Native.Nat.{_<_, _≤_};
-ghost use Rattle.picture.specs.Layout.{positions, greatest-size as greatestSize, upto};
+ghost use lib.ListN.{length};
+ghost use Rattle.picture.specs.Layout.{positions, heap-base as heapBase, greatest-size as greatestSize, upto};
 ghost use Rattle.picture.specs.declared.Area.the-variants.{Heap};
 ghost use Rattle.picture.specs.declared.Table.the-variants.{Channels};
 ghost use Rattle.picture.specs.Numbers.{channel-at as channelAt};
@@ -43,10 +44,10 @@ pub fn queue_at(p: &[u32], k: usize) -> usize
 
 // The entry of position k is gone.
 pub fn forget(p: &mut [u32], t: Table, k: usize)
-    requires { ⌜ k < positions t ⌝ }
+    requires { ⌜ (heapBase ≤ length (now p)) × (k < positions t) ⌝ }
     ensures { λ _. ⌜ now (p .exit) ≡ forgotten (now (p .entry)) t k ⌝ }
 {
-    let left = masks::without_member(picture::members_of(p, t), k);
+    let left = masks::without_member(picture::members_at(p, t), k);
     let slot = picture::slot_of(t, k);
     words::clear(p, slot, slot + picture::width_of(t));
     picture::put_members(p, t, left);
@@ -54,7 +55,7 @@ pub fn forget(p: &mut [u32], t: Table, k: usize)
 
 // The channel at position k is gone.
 pub fn remove_channel(p: &mut [u32], k: usize)
-    requires { ⌜ (k < positions Channels) × (upto (now p) Heap ≤ greatestSize) ⌝ }
+    requires { ⌜ ((heapBase ≤ length (now p)) × (k < positions Channels)) × (upto (now p) Heap ≤ greatestSize) ⌝ }
     ensures { λ _. ⌜ now (p .exit) ≡ closed (now (p .entry)) k ⌝ }
 {
     let block = queue_at(p, k);

@@ -74,7 +74,7 @@ pub fn create(p: &mut [u32], d: &mut [u32]) -> i32
     if picture::JOBS <= k {
         return picture::INVALID_JOB;
     }
-    let last = word(p, picture::last_of(Table::Jobs));
+    let last = picture::word_at(p, picture::last_of(Table::Jobs));
     if picture::GREATEST_TAG <= last {
         return picture::INVALID_JOB;
     }

@@ -11,8 +11,9 @@ use picture::field_of;
 use picture::is_used;
 use words::clear;
 ghost use mathlib.Core.Path.{_≡_};
-ghost use Prim.Native.Nat.{_<_};
-ghost use Rattle.picture.specs.Layout.{positions};
+ghost use Prim.Native.Nat.{_<_, _≤_};
+ghost use lib.ListN.{length};
+ghost use Rattle.picture.specs.Layout.{positions, heap-base as heapBase};
 ghost use Rattle.picture.specs.declared.Table.the-variants.{Jobs, Channels};
 ghost use Rattle.emptying.specs.Each.{each};
 ghost use Rattle.emptying.specs.Taken.{waits, woken, blanked, emptied, taken, channel-goes as channelGoes, channels-of as channelsOf};
@@ -60,12 +61,13 @@ fn blank(p: &mut [u32], t: Table, set: u64, k: usize)
 
 // The table is without the entries of the set.
 fn empty_table(p: &mut [u32], t: Table, set: u64)
+    requires { ⌜ heapBase ≤ length (now p) ⌝ }
     ensures { λ _. ⌜ now (p .exit) ≡ emptied (now (p .entry)) t set ⌝ }
 {
     for k in 0..picture::positions_of(t) {
         blank(p, t, set, k);
     }
-    let members = picture::members_of(p, t);
+    let members = picture::members_at(p, t);
     picture::put_members(p, t, masks::difference(members, set));
 }
 
@@ -91,6 +93,7 @@ pub fn channels_of(p: &[u32], set: u64) -> u64
 
 // The tables are without the jobs of the set and without those channels, waiters are woken with the key, nobody is current.
 pub fn take_entries(p: &mut [u32], set: u64, channels: u64, key: u32)
+    requires { ⌜ heapBase ≤ length (now p) ⌝ }
     ensures { λ _. ⌜ now (p .exit) ≡ taken (now (p .entry)) set channels key ⌝ }
 {
     wake_all(p, set, key);

@@ -15,7 +15,8 @@ use words::word;
 ghost use mathlib.Core.Path.{_≡_};
 ghost use mathlib.Core.Bool.{true};
 ghost use Prim.Native.Nat.{_≤_, _<_};
-ghost use Rattle.picture.specs.Layout.{positions, upto, greatest-size as greatestSize};
+ghost use lib.ListN.{length};
+ghost use Rattle.picture.specs.Layout.{positions, heap-base as heapBase, upto, greatest-size as greatestSize};
 ghost use Rattle.picture.specs.declared.Area.the-variants.{Heap, Transient};
 ghost use Rattle.picture.specs.declared.Table.the-variants.{Jobs};
 ghost use Rattle.sound.specs.Sound.{sound};
@@ -52,7 +53,7 @@ pub fn return_blocks(p: &mut [u32], set: u64, block: usize)
 
 // The tree of the job at position t is ended.
 pub fn end_tree(p: &mut [u32], t: usize, key: u32)
-    requires { ⌜ (t < positions Jobs) × ((upto (now p) Heap ≤ greatestSize) × (upto (now p) Transient ≤ greatestSize)) ⌝ }
+    requires { ⌜ ((heapBase ≤ length (now p)) × (t < positions Jobs)) × ((upto (now p) Heap ≤ greatestSize) × (upto (now p) Transient ≤ greatestSize)) ⌝ }
     ensures { λ _. ⌜ now (p .exit) ≡ ended (now (p .entry)) t key ⌝ }
 {
     let tree = tree_of(p, t);

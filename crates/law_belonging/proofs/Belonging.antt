@@ -1,13 +1,12 @@
 -- The statements of specs/Belonging.antt.
 use Prim.Native.Nat.{ℕ, _<_}
-use mathlib.Core.Path.{_≡_, refl, sym, ap, _∙_}
+use mathlib.Core.Path.{_≡_, sym, ap, _∙_}
 use mathlib.Core.Bool.{true, false}
 use mathlib.Core.List.{List}
 use native.Mathlib.Omega.{arith}
 use lib.ListN.{length}
-use lib.Seq.{getD-set-same, getD-set-other}
 use borrow.Author.Tests.{lt-leb, le-leb}
-use Rattle.words.specs.Words.{word, put}
+use Rattle.words.specs.Words.{word}
 use Rattle.words.specs.Signed.{bits}
 use Rattle.words.proofs.Tests.{false-true, otherwise}
 use Rattle.picture.specs.Layout.{nobody}
@@ -18,24 +17,22 @@ use Rattle.picture.specs.declared.Table.the-variants.{Jobs}
 use Rattle.picture.specs.declared.Area.the-variants.{Transient}
 use Rattle.picture.proofs.Numbers.{live-is, is-live}
 use Rattle.sound.specs.Sound.{sound}
-use Rattle.rooms.specs.Room.{spot, first-byte}
+use Rattle.rooms.specs.Room.{spot}
 use Rattle.calls.specs.Outcome.{Outcome}
 use Rattle.calls.specs.Call.{outcome}
 use Rattle.calls.specs.Registers.{D1}
 use Rattle.entering.specs.Entry.{next-number}
-use Rattle.creating.specs.Create.{owner-found, owner-check, owner-in, job-length, created, job-registers, create}
+use Rattle.creating.specs.Create.{owner-found, owner-check, owner-in, job-length, created, create}
 use Rattle.creating.proofs.Ways.{found-nobody}
 use Rattle.law_creating.proofs.Ways.{Checked, the-owner-named, create-where-done}
 use Rattle.law_creating.proofs.Kept.{created-sound}
-use Rattle.law_creating.proofs.New.{new-job-was-dead, new-job-lives, new-job-owner, created-keeps-lives, created-keeps-owners}
+use Rattle.law_creating.proofs.New.{new-number-in-D1, new-job-was-dead, new-job-lives, new-job-owner, created-keeps-lives, created-keeps-owners}
 use Rattle.law_owners.specs.Under.{Under}
 use Rattle.law_owners.proofs.Owners.{nobody-is-no-job, owners-in-order}
-use Rattle.traps.specs.Traps.{trap-one, call-named}
 use Rattle.manager.specs.Door.{with-key, called}
-use Rattle.manager.proofs.Door.{named-one}
 use Rattle.law_promises.specs.History.{run}
 use Rattle.law_promises.specs.Ending.{top, Ends}
-use Rattle.law_promises.proofs.Done.{where-the-call-is-done}
+use Rattle.law_promises.proofs.Done.{where-the-call-is-done, where-a-job-is-made}
 use Rattle.law_promises.proofs.Door.{call-keeps-sound}
 use Rattle.law_promises.proofs.History.{run-keeps-sound}
 use Rattle.law_promises.proofs.Ending.{ending-takes-the-tree-and-no-more}
@@ -48,14 +45,6 @@ use Rattle.law_belonging.proofs.Trees.{under-there, under-before}
 not-nobody : (n : ℕ) → n < 0x8000_0000 → n ≡ nobody → ⊥
 not-nobody n l e = omega arith
 
--- D1 after the call
-made-D1 : (n i v : ℕ) (d : List ℕ) → length d ≡ 8 → D1 (put (job-registers n i d) 0 v) ≡ n
-unfolding job-registers
-made-D1 n i v d l =
-    getD-set-other (put (put d 1 n) 4 (first-byte i)) 0 1 v 0 (λ e. omega arith)
-    ∙ getD-set-other (put d 1 n) 4 1 (first-byte i) 0 (λ e. omega arith)
-    ∙ getD-set-same d 1 n 0 (omega arith)
-
 -- the new job, what the owner's check says, and the owner in the record
 record MadeBy (p d : List ℕ) (o : Outcome) : Type 0 where
   made : Made p o
@@ -63,14 +52,9 @@ record MadeBy (p d : List ℕ) (o : Outcome) : Type 0 where
   owned : owner (o .picture) Jobs (position (new o)) ≡ owner-in (owner-found p (D1 d))
 
 module _ (p d name : List ℕ) where
-  -- the call that D0 names
-  is-the-making : word d 0 ≡ 0x1 → outcome (call-named 1 name) p d ≡ outcome create p d
-  unfolding trap-one outcome
-  is-the-making e = named-one 1 p d name refl ∙ rw e
-
   makes : length d ≡ 8 → sound p ≡ true → outcome create p d .key ≡ done → MadeBy p d (with-key (outcome create p d))
   makes l s = create-where-done (λ (o : Outcome). MadeBy p d (with-key o)) p d (λ (c : Checked p d).
-      let z = made-D1 (next-number p Jobs) (spot p Transient (job-length d)) (bits done) d l in
+      let z = new-number-in-D1 (next-number p Jobs) (spot p Transient (job-length d)) (bits done) d l in
       let q = created-sound p d s c in
       record {
         made = record {
@@ -84,7 +68,7 @@ module _ (p d name : List ℕ) where
       })
 
   made-by : word d 0 ≡ 0x1 → called 1 p d name .key ≡ done → MadeBy p d (called 1 p d name)
-  made-by e = where-the-call-is-done 1 p d name (MadeBy p d) (λ l s _ k. let z = is-the-making e in rw z (makes l s (rw z at k)))
+  made-by e = where-a-job-is-made p d name (MadeBy p d) e makes
 
   -- the picture after a call that is done is sound
   sound-after : called 1 p d name .key ≡ done → sound (called 1 p d name .picture) ≡ true

@@ -1,12 +1,9 @@
 -- The order of bytes over a history: each event keeps it, so all of them do; and a channel opened begins with no byte.
 use Prim.Native.Nat.{ℕ}
-use mathlib.Core.Path.{_≡_, refl, sym, ap, _∙_}
+use mathlib.Core.Path.{_≡_, sym, ap, _∙_}
 use mathlib.Core.Bool.{true}
 use mathlib.Core.List.{List, [], _∷_, _++_, append-assoc, append-nil}
-use native.Mathlib.Omega.{arith}
-use lib.ListN.{length, length-set}
-use lib.Seq.{getD-set-same, getD-set-other}
-use Rattle.words.specs.Words.{word, put}
+use lib.ListN.{length}
 use Rattle.words.specs.Signed.{bits}
 use Rattle.words.proofs.Tests.{otherwise}
 use Rattle.picture.specs.Keys.{done}
@@ -17,16 +14,13 @@ use Rattle.calls.specs.Outcome.{Outcome}
 use Rattle.calls.specs.Call.{outcome}
 use Rattle.calls.specs.Registers.{D1, A0, meant}
 use Rattle.entering.specs.Entry.{next-number}
-use Rattle.opening.specs.Effects.{channel-registers}
 use Rattle.opening.specs.Calls.{open-channel}
-use Rattle.traps.specs.Traps.{trap-two, call-named}
 use Rattle.manager.specs.Door.{with-key, called}
-use Rattle.manager.proofs.Door.{named-two}
 use Rattle.law_opening.proofs.Ways.{Checked, open-channel-where-done}
-use Rattle.law_opening.proofs.Queues.{a-new-number-was-dead, a-new-channel-is-live, a-new-channel-is-empty}
+use Rattle.law_opening.proofs.Queues.{new-number-in-A0, a-new-number-was-dead, a-new-channel-is-live, a-new-channel-is-empty}
 use Rattle.law_queues.specs.Lists.{bytes-at}
 use Rattle.law_promises.specs.History.{after, run}
-use Rattle.law_promises.proofs.Done.{where-the-call-is-done}
+use Rattle.law_promises.proofs.Done.{where-the-call-is-done, where-a-channel-is-opened}
 use Rattle.law_promises.proofs.Door.{call-keeps-sound}
 use Rattle.law_promises.proofs.History.{event-keeps-sound, live-after-the-first}
 use Rattle.law_bytes.specs.Order.{fetched-by, sent-by, fetched-from, sent-to, OrderOfBytes, NewChannel, OpeningMakesAnEmptyQueue, OrderSinceTheOpening}
@@ -44,25 +38,14 @@ order-of-bytes p s n (e ∷ events) a l =
     ∙ ap (λ (x : List ℕ). x ++ sent-to n events q) (event-keeps-the-order p s n e a m)
     ∙ append-assoc (bytes-at p n) (sent-by n e p) (sent-to n events q)
 
--- the registers after an opening
-opened-A0 : (o c v : ℕ) (d : List ℕ) → length d ≡ 8 → A0 (put (channel-registers o c d) 0 v) ≡ c
-unfolding channel-registers
-opened-A0 o c v d l = getD-set-other (put (put d 1 o) 4 c) 0 4 v 0 (λ e. omega arith) ∙ getD-set-same (put d 1 o) 4 c 0 (simp length-set (omega arith))
-
 module _ (p d name : List ℕ) where
-  -- the call that D0 names
-  is-the-opening : word d 0 ≡ 0x1 → outcome (call-named 2 name) p d ≡ outcome (open-channel name) p d
-  unfolding trap-two outcome
-  is-the-opening e = named-two 2 p d name refl ∙ rw e
-
-  opens : sound p ≡ true → length d ≡ 8 → outcome (open-channel name) p d .key ≡ done → NewChannel p (with-key (outcome (open-channel name) p d))
-  opens s l = open-channel-where-done (λ (o : Outcome). NewChannel p (with-key o)) p d name (λ (c : Checked p d name).
-      let z = opened-A0 (meant p (D1 d)) (next-number p Channels) (bits done) d l in
+  opens : length d ≡ 8 → sound p ≡ true → outcome (open-channel name) p d .key ≡ done → NewChannel p (with-key (outcome (open-channel name) p d))
+  opens l s = open-channel-where-done (λ (o : Outcome). NewChannel p (with-key o)) p d name (λ (c : Checked p d name).
+      let z = new-number-in-A0 (meant p (D1 d)) (next-number p Channels) (bits done) d l in
       record { new = rw z (otherwise (live p Channels (next-number p Channels)) (a-new-number-was-dead p d name s c)); lives = rw z (a-new-channel-is-live p d name s c); empty = rw z (a-new-channel-is-empty p d name s c) })
 
 pub opening-makes-an-empty-queue : OpeningMakesAnEmptyQueue
-opening-makes-an-empty-queue p d name e = where-the-call-is-done 2 p d name (NewChannel p)
-    (λ l s _ k. let z = is-the-opening p d name e in rw z (opens p d name s l (rw z at k)))
+opening-makes-an-empty-queue p d name e = where-a-channel-is-opened p d name (NewChannel p) e (opens p d name)
 
 pub order-since-the-opening : OrderSinceTheOpening
 order-since-the-opening p d name e k events l =

@@ -33,7 +33,8 @@ use Rattle.rooms.proofs.Sizes.{Lies, areas-lie-in-a-sound-picture}
 use Rattle.calls.specs.Registers.{D1, D2, D3, A1}
 use Rattle.entering.specs.Entry.{has-position, has-tag, next-tag}
 use Rattle.law_entering.proofs.Written.{Entered, entered-is, entering-keeps-the-areas, entered-after}
-use Rattle.law_entering.proofs.Kept.{free-position-is-free, low-other}
+use Rattle.entering.proofs.Vacant.{free-position-is-free}
+use Rattle.law_entering.proofs.Kept.{low-other}
 use Rattle.law_blocks.proofs.Tables.{TablesSame}
 use Rattle.law_blocks.proofs.Change.{Change, from-same, upto-same, change-then}
 use Rattle.law_blocks.proofs.Placing.{None, Only, placed-facts, placing-keeps-the-tables, placing-is-a-change}

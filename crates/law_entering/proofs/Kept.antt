@@ -8,11 +8,10 @@ use lib.Dec.{leb}
 use native.Mathlib.Omega.{arith}
 use Rattle.words.specs.Words.{word}
 use Rattle.words.specs.Bits.{bit}
-use Rattle.masks.proofs.Lowest.{Lowest, lowest-clear-is}
 use Rattle.words.proofs.Tests.{both, false-true, lt-or-ge}
 use Rattle.picture.specs.Layout.{positions, width, last-word, greatest-tag, first-job}
 use Rattle.picture.specs.Records.{slot, field, number, owner, used, number-field, owner-field, members}
-use Rattle.picture.specs.Numbers.{tag-weight, tag, position, number-of, live, free-position}
+use Rattle.picture.specs.Numbers.{tag-weight, tag, position, number-of, live}
 use Rattle.picture.specs.declared.Table.{Table}
 use Rattle.picture.specs.declared.Table.the-variants.{Jobs, Channels}
 use Rattle.picture.proofs.Records.{slot-within, positions-named, used-below, used-is}
@@ -28,11 +27,6 @@ use Rattle.sound_facts.proofs.View.{has-block-used}
 use Rattle.sound_facts.proofs.Same.{live-same, Lives, owned-kept, EntriesSame}
 use Rattle.sound_facts.proofs.Ages.{Ages, ages-same}
 use Rattle.law_entering.proofs.Written.{Entered, Places, places}
-
--- the free position of a table is not in use
-pub free-position-is-free : (p : List ℕ) (t : Table) → free-position p t < positions t → used p t (free-position p t) ≡ false
-unfolding free-position
-free-position-is-free p t l = used-is p t _ l ∙ lowest-clear-is (positions t) (members p t) .free l
 
 -- the number of a tag and a position
 pub number-position : (g k : ℕ) → k < tag-weight → position (number-of g k) ≡ k

@@ -37,7 +37,7 @@ use Rattle.rooms.proofs.Room.{has-room, spot-is-free-and-enough}
 use Rattle.rooms.proofs.Sizes.{Lies, areas-lie-in-a-sound-picture}
 use Rattle.entering.specs.Entry.{has-position, has-tag, next-tag, entered}
 use Rattle.law_entering.proofs.Written.{Entered, entered-is, entering-keeps-the-areas, entered-after}
-use Rattle.law_entering.proofs.Kept.{free-position-is-free}
+use Rattle.entering.proofs.Vacant.{free-position-is-free}
 use Rattle.law_blocks.proofs.Tables.{TablesSame}
 use Rattle.law_blocks.proofs.Change.{Change, from-same, upto-same, change-then}
 use Rattle.law_blocks.proofs.Placing.{None, Only, placed-facts, placing-keeps-the-tables, placing-is-a-change}

@@ -1,10 +1,13 @@
--- Opening a channel leaves every queue as it was; the new channel is live, and its queue is empty.
+-- Opening a channel leaves every queue as it was; the new channel, whose number is in A0, is live, and its queue is empty.
 use Prim.Native.Nat.{ℕ, _+_, _<_}
 use mathlib.Core.Path.{_≡_, refl, sym, ap, _∙_}
 use mathlib.Core.Bool.{true}
 use mathlib.Core.Logic.{⊎-elim}
 use mathlib.Core.List.{List, []}
 use native.Mathlib.Omega.{arith}
+use lib.ListN.{length, length-set}
+use lib.Seq.{getD-set-same, getD-set-other}
+use Rattle.words.specs.Words.{put}
 use Rattle.words.proofs.Tests.{false-true}
 use Rattle.picture.specs.Layout.{positions}
 use Rattle.picture.specs.Records.{number, used, slot, number-field, base-field}
@@ -18,7 +21,7 @@ use Rattle.sound.specs.Sound.{sound}
 use Rattle.sound_facts.proofs.View.{has-block-used}
 use Rattle.calls.specs.Outcome.{Outcome}
 use Rattle.calls.specs.Call.{outcome}
-use Rattle.calls.specs.Registers.{D1, meant}
+use Rattle.calls.specs.Registers.{D1, A0, meant}
 use Rattle.law_blocks.proofs.Placing.{None, Only}
 use Rattle.law_blocks.proofs.Intact.{Intact, change-keeps-every-other-block}
 use Rattle.entering.specs.Entry.{next-tag, next-number}
@@ -30,11 +33,16 @@ use Rattle.channels.specs.Effects.{queue-of}
 use Rattle.channels.proofs.Found.{live-below}
 use Rattle.law_queues.specs.Lists.{bytes-at}
 use Rattle.law_queues.proofs.Stays.{QueueStays, a-queue-that-stays-keeps-its-bytes, a-queue-is-a-block-in-use}
-use Rattle.opening.specs.Effects.{opened}
+use Rattle.opening.specs.Effects.{opened, channel-registers}
 use Rattle.opening.specs.Calls.{open-channel}
 use Rattle.law_opening.proofs.Ways.{Checked, open-channel-ways}
 use Rattle.law_opening.proofs.Opened as the
 use Rattle.law_opening.proofs.Kept.{old, pair}
+
+-- A0 after the call
+pub new-number-in-A0 : (o c v : ℕ) (d : List ℕ) → length d ≡ 8 → A0 (put (channel-registers o c d) 0 v) ≡ c
+unfolding channel-registers
+new-number-in-A0 o c v d l = getD-set-other (put (put d 1 o) 4 c) 0 4 v 0 (λ e. omega arith) ∙ getD-set-same (put d 1 o) 4 c 0 (simp length-set (omega arith))
 
 empty : (q : List ℕ) (i : ℕ) → queue-count q i ≡ 0 → contents q i ≡ []
 unfolding contents

@@ -5,7 +5,7 @@ use mathlib.Core.Bool.{Bool, true, false, _&&_, _||_, not, cond}
 use mathlib.Core.Logic.{⊎-elim, _⊎_, inl, inr}
 use lib.Dec.{eqb}
 use lib.Pow.{pow-pos, pow-mono, shl-exact}
-use lib.Bits.{bitAnd, and-step, and-shr}
+use lib.Bits.{bitAnd, bitOr, and-mask, and-step, and-shr, or-add-and}
 use native.Mathlib.Nat.{pow-suc, pow-succ', div-div-eq-div-mul, mul-comm, one-mul, eq-or-lt-of-le, le-of-suc-le-suc, not-suc-le-zero, div-eq-of-lt}
 use native.Mathlib.Numerals.{add-one}
 use native.Mathlib.Omega.{arith}
@@ -210,3 +210,59 @@ without-at n m k l h =
         let y = eqb-false (m / 2 ^ k % 2) 1 z in
         let x : bitAnd (n / 2 ^ k) i % 2 ≡ n / 2 ^ k % 2 = omega arith in
         rw x
+
+-- of the set whose one member is k, m has what m has of k
+shared : (k m : ℕ) → bitAnd m (2 ^ k) ≡ cond (bit m k) (2 ^ k) 0
+shared zero m = and-mask m 1 ∙ go (bit m 0) refl
+  where
+    go : (b : Bool) → bit m 0 ≡ b → m % 2 ≡ cond b 1 0
+    go true e = let z = eqb-true (m / 1 % 2) 1 e in omega arith
+    go false e = let z = clear-is m 0 e in omega arith
+shared (suc k) m =
+    let q : 2 ^ suc k ≡ 2 ^ k * 2 = pow-suc 2 k in
+    let half : 2 ^ suc k / 2 ≡ 2 ^ k = omega arith in
+    let even : 2 ^ suc k % 2 ≡ 0 = omega arith in
+    let b : bit m (suc k) ≡ bit (m / 2) k = ap (λ (x : ℕ). eqb (x % 2) 1) (half-bit m k) in
+    let s : bitAnd m (2 ^ suc k) ≡ bitAnd (m / 2) (2 ^ k) * 2 + min (m % 2) 0 = rw (half, even) at (and-step m (2 ^ suc k)) in
+    rw (s, shared k (m / 2), b) (go q (bit (m / 2) k))
+  where
+    go : 2 ^ suc k ≡ 2 ^ k * 2 → (b : Bool) → cond b (2 ^ k) 0 * 2 + min (m % 2) 0 ≡ cond b (2 ^ suc k) 0
+    go q true = omega arith
+    go q false = omega arith
+
+-- what m has of a set and of the others is all of m
+digit : (x y : ℕ) → x < 2 → y < 2 → min x (1 - y) + min x y ≡ x
+digit x y l h = omega arith
+
+halves : (m x y a b c d : ℕ) → x ≡ a * 2 + c → y ≡ b * 2 + d → a + b ≡ m / 2 → c + d ≡ m % 2 → x + y ≡ m
+halves m x y a b c d e f g h = omega arith
+
+parted : (w m n : ℕ) → m < 2 ^ w → n < 2 ^ w → bitAnd m (2 ^ w - 1 - n) + bitAnd m n ≡ m
+parted zero m n l h = let z : m ≡ 0 = omega arith in rw z
+parted (suc w) m n l h =
+    let q : 2 ^ suc w ≡ 2 ^ w * 2 = pow-suc 2 w in
+    let o = pow-pos w in
+    let half : (2 ^ suc w - 1 - n) / 2 ≡ 2 ^ w - 1 - n / 2 = omega arith in
+    let low : (2 ^ suc w - 1 - n) % 2 ≡ 1 - n % 2 = omega arith in
+    halves m _ _ _ _ _ _ (rw (half, low) at (and-step m (2 ^ suc w - 1 - n))) (and-step m n)
+    (parted w (m / 2) (n / 2) (omega arith) (omega arith))
+    (digit (m % 2) (n % 2) (omega arith) (omega arith))
+
+-- a member is taken in and out by one step on all bits
+pub with-bit-is : (m k : ℕ) → bitOr m (2 ^ k) ≡ with-bit m k
+with-bit-is m k = go (bit m k) refl (rw (shared k m) at (or-add-and m (2 ^ k)))
+  where
+    go : (b : Bool) → bit m k ≡ b → bitOr m (2 ^ k) + cond (bit m k) (2 ^ k) 0 ≡ m + 2 ^ k → bitOr m (2 ^ k) ≡ with-bit m k
+    go true e s = let r = rw e at s in omega arith ∙ sym (with-bit-set m k e)
+    go false e s = let r = rw e at s in omega arith ∙ sym (with-bit-added m k e)
+
+pub without-bit-is : (m k : ℕ) → k < set-width → m < 2 ^ set-width → without m (2 ^ k) ≡ without-bit m k
+unfolding without
+without-bit-is m k l h = go (bit m k) refl (rw (shared k m) at (parted set-width m (2 ^ k) h (pow-lt l)))
+  where
+    pow-lt : k < set-width → 2 ^ k < 2 ^ set-width
+    pow-lt l = let q = pow-mono {i = suc k} {j = set-width} l in let r : 2 ^ suc k ≡ 2 ^ k * 2 = pow-suc 2 k in let o = pow-pos k in omega arith
+
+    go : (b : Bool) → bit m k ≡ b → bitAnd m (2 ^ set-width - 1 - 2 ^ k) + cond (bit m k) (2 ^ k) 0 ≡ m → bitAnd m (2 ^ set-width - 1 - 2 ^ k) ≡ without-bit m k
+    go true e s = let r = rw e at s in omega arith ∙ sym (without-bit-taken m k e)
+    go false e s = let r = rw e at s in omega arith ∙ sym (without-bit-clear m k e)

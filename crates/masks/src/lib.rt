@@ -18,10 +18,7 @@ pub fn with_member(set: u64, k: usize) -> u64
     requires { ⌜ k < setWidth ⌝ }
     ensures { λ r. ⌜ r ≡ withBit set k ⌝ }
 {
-    if is_member(set, k) {
-        return set;
-    }
-    set + (1 << k)
+    set | (1 << k)
 }
 
 // The set without the member k.
@@ -29,10 +26,7 @@ pub fn without_member(set: u64, k: usize) -> u64
     requires { ⌜ k < setWidth ⌝ }
     ensures { λ r. ⌜ r ≡ withoutBit set k ⌝ }
 {
-    if is_member(set, k) {
-        return set - (1 << k);
-    }
-    set
+    difference(set, 1 << k)
 }
 
 // The set with the member k if that passes.
@@ -40,10 +34,7 @@ pub fn with_passing(set: u64, k: usize, passes: bool) -> u64
     requires { ⌜ k < setWidth ⌝ }
     ensures { λ r. ⌜ r ≡ cond passes (withBit set k) set ⌝ }
 {
-    if passes {
-        return with_member(set, k);
-    }
-    set
+    set | ((passes as u64) << k)
 }
 
 // The members of the set that aren't in the other.

@@ -8,7 +8,9 @@ use words::word;
 ghost use mathlib.Core.Path.{_≡_};
 ghost use mathlib.Core.Bool.{true};
 ghost use Prim.Native.Nat.{_<_, _≤_};
-ghost use Rattle.picture.specs.Layout.{positions, greatest-tag as greatestTag, greatest-size as greatestSize};
+ghost use lib.ListN.{length};
+ghost use Rattle.picture.specs.Layout.{positions, heap-base as heapBase, greatest-tag as greatestTag, greatest-size as greatestSize};
+ghost use Rattle.picture.specs.Records.{all-zero as allZero};
 ghost use Rattle.picture.specs.declared.Table.the-variants.{Channels};
 ghost use Rattle.sound.specs.Sound.{sound};
 ghost use Rattle.calls.specs.Outcome.{Meets};
@@ -18,11 +20,11 @@ ghost use Rattle.opening.specs.Calls.{open-channel as openChannel};
 
 // The entry with this tag at position k, of this owner, for the queue at i, is in the table.
 pub fn enter_channel(p: &mut [u32], k: usize, tag: u32, owner: u32, i: usize)
-    requires { ⌜ ((k < positions Channels) × (tag ≤ greatestTag)) × (i < greatestSize) ⌝ }
+    requires { ⌜ (((heapBase ≤ length (now p)) × ((k < positions Channels) × (allZero (now p) Channels k ≡ true))) × (tag ≤ greatestTag)) × (i < greatestSize) ⌝ }
     ensures { λ _. ⌜ now (p .exit) ≡ channelled (now (p .entry)) k tag owner i ⌝ }
 {
     entering::enter(p, Table::Channels, k, tag, owner, rooms::header_byte(i));
-    calls::put_field(p, Table::Channels, k, picture::ENDING, 1);
+    picture_tables::put_field(p, Table::Channels, k, picture::ENDING, 1);
 }
 
 // D1 is the owner, A0 the channel.
@@ -51,7 +53,7 @@ pub fn open_channel(p: &mut [u32], d: &mut [u32], name: &[u8]) -> i32
     if picture::CHANNELS <= k {
         return picture::CHANNEL_NOT_OPEN;
     }
-    let last = word(p, picture::last_of(Table::Channels));
+    let last = picture::word_at(p, picture::last_of(Table::Channels));
     if picture::GREATEST_TAG <= last {
         return picture::CHANNEL_NOT_OPEN;
     }

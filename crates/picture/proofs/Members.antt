@@ -72,11 +72,25 @@ module _ (t : Table) where
   pub spares-past : (j : ℕ) → first-job ≤ j → Spares t j
   spares-past j l h = omega (arith, holds-low t j h)
 
--- a set holds every position, and the two tables' sets stand apart
+-- a set holds every position
 pub positions-within : (t : Table) → positions t ≤ set-width
 positions-within Jobs = omega arith
 positions-within Channels = omega arith
 
+-- a longword has a bit for every position
+pub members-fit : (t : Table) (m : ℕ) → m < 4294967296 → m < 2 ^ positions t
+members-fit Jobs m l = l
+members-fit Channels m l = l
+
+pub bits-of-positions : (t : Table) (k : ℕ) → k < positions t → k < 32
+bits-of-positions Jobs k l = l
+bits-of-positions Channels k l = l
+
+pub fit-members : (t : Table) (m : ℕ) → m < 2 ^ positions t → m < 4294967296
+fit-members Jobs m l = l
+fit-members Channels m l = l
+
+-- the two tables' sets stand apart
 pub spares-other : (t u : Table) → (u ≡ t → ⊥) → (j : ℕ) → Holds u j → Spares t j
 unfolding Holds
 spares-other Jobs Jobs n j h = absurd (n refl)
@@ -93,6 +107,11 @@ members-same p q t h = h (mask-word t) refl
 pub members-none : (p : List ℕ) (t : Table) → ((j : ℕ) → Holds t j → word p j ≡ 0) → members p t ≡ 0
 unfolding members Holds
 members-none p t h = h (mask-word t) refl
+
+-- it lies within a picture that has its tables
+pub members-within : (t : Table) (n : ℕ) → heap-base ≤ n → mask-word t < n
+members-within Jobs n l = omega arith
+members-within Channels n l = omega arith
 
 -- what writing a set leaves, and what it writes
 module _ (p : List ℕ) (t : Table) (m : ℕ) where

@@ -2,10 +2,11 @@
 use Prim.Native.Nat.{ℕ, _+_, _*_}
 use mathlib.Core.Bool.{Bool, _&&_}
 use mathlib.Core.List.{List}
-use lib.Dec.{leb, ltb}
+use lib.Dec.{leb, ltb, eqb}
 use lib.IntN.{ℤ, pos}
 use Rattle.words.specs.Words.{word, put}
 use Rattle.words.specs.Bits.{bit}
+use Rattle.words.specs.Each.{every}
 use Rattle.words.specs.Signed.{signed, bits, eqZ}
 use Rattle.picture.specs.Layout.{mask-word, positions, width, first-record}
 use Rattle.picture.specs.declared.Table.{Table}
@@ -21,6 +22,10 @@ field p t k f = word p (slot t k + f)
 
 abbrev pub with-field : List ℕ → Table → ℕ → ℕ → ℕ → List ℕ
 with-field p t k f v = put p (slot t k + f) v
+
+-- rules 25 and 26: the record of position k is "all zero"
+unfoldable pub all-zero : List ℕ → Table → ℕ → Bool
+all-zero p t k = every (λ (f : ℕ). eqb (field p t k f) 0) (width t)
 
 -- rules 7 and 8: of both tables: "number, owner, block base"
 abbrev pub number-field : ℕ

@@ -204,27 +204,29 @@ pub fn timeout_of(p: &[u32], k: usize) -> i32
     words::signed_of(field_of(p, Table::Jobs, k, TIMEOUT))
 }
 
-// The set of the table's positions in use.
-pub fn members_of(p: &[u32], t: Table) -> u64
-    ensures { λ r. ⌜ (r ≡ members (now (p .entry)) t) × (r < 2 ^ positions t) ⌝ }
-{
-    word(p, mask_of(t)) as u64
-}
-
-// The same, of a picture that has its tables: no index is tested.
+// The set of the table's positions in use, of a picture that has its tables.
 pub fn members_at(p: &[u32], t: Table) -> u64
     requires { ⌜ heapBase ≤ length (now p) ⌝ }
-    ensures { λ r. ⌜ r ≡ members (now (p .entry)) t ⌝ }
+    ensures { λ r. ⌜ (r ≡ members (now (p .entry)) t) × (r < 2 ^ positions t) ⌝ }
 {
     word_at(p, mask_of(t)) as u64
 }
 
+// Position k is one of them: one bit of one longword is tested.
+pub fn is_member_at(p: &[u32], t: Table, k: usize) -> bool
+    requires { ⌜ (heapBase ≤ length (now p)) × (k < positions t) ⌝ }
+    ensures { λ r. ⌜ r ≡ used (now (p .entry)) t k ⌝ }
+{
+    words::is_set(word_at(p, mask_of(t)), k)
+}
+
 // Stores the set of the table's positions in use.
 pub fn put_members(p: &mut [u32], t: Table, set: u64)
-    requires { ⌜ set < 2 ^ positions t ⌝ }
+    requires { ⌜ (heapBase ≤ length (now p)) × (set < 2 ^ positions t) ⌝ }
     ensures { λ _. ⌜ now (p .exit) ≡ withMembers (now (p .entry)) t set ⌝ }
 {
-    words::put(p, mask_of(t), set as u32);
+    let i = mask_of(t);
+    p[i] = set as u32;
 }
 
 // Position k is in use.
@@ -234,7 +236,7 @@ pub fn is_used(p: &[u32], t: Table, k: usize) -> bool
     if positions_of(t) <= k {
         return false;
     }
-    masks::is_member(members_of(p, t), k)
+    words::is_set(word(p, mask_of(t)), k)
 }
 
 // The job at position k is ready.
@@ -308,11 +310,12 @@ pub fn channel_at(p: &[u32], n: ChannelNumber) -> ChannelFound
     ChannelFound::Dead
 }
 
-// The lowest position that is free, or the number of positions for none.
+// The lowest position that is free, or the number of positions for none: by the mask alone, in as many steps however many are in use.
 pub fn free_position(p: &[u32], t: Table) -> usize
+    requires { ⌜ heapBase ≤ length (now p) ⌝ }
     ensures { λ r. ⌜ (r ≡ freePosition (now (p .entry)) t) × (r ≤ positions t) ⌝ }
 {
-    masks::lowest_clear(members_of(p, t))
+    masks::lowest_clear(members_at(p, t))
 }
 
 // Where an area starts.

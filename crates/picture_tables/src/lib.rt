@@ -5,7 +5,7 @@ ghost use Prim.Native.Nat.{_<_, _≤_};
 ghost use lib.ListN.{length};
 ghost use Rattle.words.specs.Words.{put};
 ghost use Rattle.picture.specs.Layout.{positions, width, heap-base as heapBase};
-ghost use Rattle.picture.specs.Records.{field, timeout, used, ready};
+ghost use Rattle.picture.specs.Records.{field, with-field as withField, timeout, used, ready};
 ghost use Rattle.picture.specs.Numbers.{live};
 ghost use Rattle.picture.specs.declared.Table.the-variants.{Jobs};
 
@@ -25,6 +25,14 @@ pub fn field_of(p: &[u32], t: Table, k: usize, f: usize) -> u32
     picture::word_at(p, picture::slot_of(t, k) + f)
 }
 
+// Stores v in field f of the record of position k.
+pub fn put_field(p: &mut [u32], t: Table, k: usize, f: usize, v: u32)
+    requires { ⌜ (heapBase ≤ length (now p)) × ((k < positions t) × (f < width t)) ⌝ }
+    ensures { λ _. ⌜ now (p .exit) ≡ withField (now (p .entry)) t k f v ⌝ }
+{
+    put_at(p, picture::slot_of(t, k) + f, v);
+}
+
 // The timeout of the job at position k.
 pub fn timeout_of(p: &[u32], k: usize) -> i32
     requires { ⌜ (heapBase ≤ length (now p)) × (k < positions Jobs) ⌝ }
@@ -41,7 +49,7 @@ pub fn is_used(p: &[u32], t: Table, k: usize) -> bool
     if picture::positions_of(t) <= k {
         return false;
     }
-    masks::is_member(picture::members_at(p, t), k)
+    picture::is_member_at(p, t, k)
 }
 
 // The number n names a live entry of the table.

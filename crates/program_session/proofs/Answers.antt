@@ -12,7 +12,7 @@ use Rattle.program_writing.proofs.Writer.{answer-behind, answer-past}
 use Rattle.program_lines.specs.Frames.{Frame, reports, frame}
 use Rattle.program_reports.specs.Reports.{reported}
 use Rattle.program_lines.proofs.Kept.{kept-in-room}
-use Rattle.program_session.specs.Reply.{reply, Replied}
+use Rattle.program_replies.specs.Reply.{reply, Replied}
 use Rattle.program_session.specs.Session.{line-text, line-picture}
 use Rattle.program_session.specs.Rooms.{most-kept, longest-answer, Answered, Ended}
 use Rattle.program_session.specs.Pieces.{with-line, step, step-text, after, gives, last-feed}

@@ -1,5 +1,4 @@
 -- Laws of the definitions of specs/.
-pub mod Replies
 pub mod States
 pub mod Answers
 pub mod Known

@@ -12,7 +12,7 @@ use Rattle.program_writing.specs.Texts.{answers-text}
 use Rattle.program_lines.specs.Frames.{Frame, frame}
 use Rattle.program_lines.specs.Feeds.{before-feed}
 use Rattle.program_lines.proofs.Kept.{frame-kept, kept-more}
-use Rattle.program_session.specs.Reply.{reply}
+use Rattle.program_replies.specs.Reply.{reply}
 use Rattle.program_session.specs.Session.{line-text, line-picture}
 use Rattle.program_session.specs.Pieces.{State, with-line, step, step-text, after, gives}
 use Rattle.program_session.specs.Rooms.{most-kept, Held}

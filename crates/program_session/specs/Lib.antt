@@ -1,5 +1,4 @@
 -- The definitions that the contracts cite.
-pub mod Reply
 pub mod Session
 pub mod Pieces
 pub mod Rooms

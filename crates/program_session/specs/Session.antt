@@ -6,7 +6,7 @@ use Rattle.fresh.specs.Fresh.{fresh}
 use Rattle.program_digits.specs.Digits.{pick}
 use Rattle.program_writing.specs.Texts.{answers-text}
 use Rattle.program_lines.specs.Frames.{frame}
-use Rattle.program_session.specs.Reply.{reply}
+use Rattle.program_replies.specs.Reply.{reply}
 
 -- "The picture starts fresh, N 1,024, H 256."
 abbrev pub first-size : ℕ

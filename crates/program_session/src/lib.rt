@@ -1,17 +1,10 @@
 // A session: a frame of hexadecimal a line, and an answer for each.
-mod answering;
 mod room;
 mod running;
 
 pub use room::line_room;
 pub use room::picture_room;
 pub use running::answer_all;
-
-// What a line comes to: so many longwords of an answer of one line, or the report of a tree.
-pub enum Answer {
-    Longwords(usize),
-    Report(u32),
-}
 
 // How far a chunk is taken, how many characters of the line at hand are kept, and how much of the output's room is used.
 pub struct Progress {

@@ -8,13 +8,6 @@ pub fn line_room() -> [u8; 513]
     [0; 513]
 }
 
-// Room for a name: two digits a byte behind a trap's 66.
-pub fn name_room() -> [u8; 223]
-    ensures { λ r. ⌜ 223 ≡ length r ⌝ }
-{
-    [0; 223]
-}
-
 // Room for the picture.
 pub fn picture_room() -> [u32; 1024]
     ensures { λ r. ⌜ 1024 ≡ length r ⌝ }

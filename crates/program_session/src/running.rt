@@ -1,9 +1,8 @@
-use crate::Answer;
 use crate::Progress;
-use crate::answering;
 use crate::room;
 use program_pieces::Input;
 use program_pieces::Kept;
+use program_replies::Answer;
 ghost use mathlib.Core.Path.{_≡_};
 ghost use mathlib.Core.List.{_++_};
 ghost use Prim.Native.Nat.{_+_, _≤_};
@@ -31,7 +30,7 @@ fn answer_line(p: &mut [u32], line: &[u8], out: &mut [u8], used: usize) -> usize
     ensures { λ r. ⌜ Answered (now (line .entry)) (now (p .entry)) (now (p .exit)) (now (out .entry)) used (now (out .exit)) r ⌝ }
 {
     let mut registers = room::registers_room();
-    match answering::answer(p, line, &mut registers) {
+    match program_replies::answer_frame(p, line, &mut registers) {
         Answer::Longwords(count) => program_writing::write_answer(out, used, &registers[..count]),
         Answer::Report(top) => program_reports::write_report(p, top, out, used),
     }

@@ -7,14 +7,11 @@ use mathlib.Core.List.{List}
 use native.Mathlib.Omega.{arith}
 use lib.Dec.{leb, eqb}
 use borrow.Author.Tests.{eqb-true, eqb-false, ne-eqb, leb-true, le-leb, not-true}
-use Rattle.words.specs.Each.{every}
 use Rattle.words.proofs.Tests.{both, parts, both-true, either, failing, false-true, fails-right}
-use Rattle.words.proofs.Each.{every-at}
-use Rattle.picture.specs.Layout.{width}
-use Rattle.picture.specs.Records.{field, base, number, used}
+use Rattle.picture.specs.Records.{all-zero, base, number, used}
 use Rattle.picture.specs.declared.Table.{Table}
 use Rattle.picture.specs.declared.Table.the-variants.{Jobs, Channels}
-use Rattle.picture.proofs.Records.{shared}
+use Rattle.picture.proofs.Records.{shared, all-zero-at}
 use Rattle.sound_matching.specs.Match.{first, has-block}
 use Rattle.sound_records.specs.Rules.{zero-base, priority-within, accumulated-within, timeout-within, ends-in-one, blank, positioned, zero-exists, tag-within, tag-once, owner-live, owner-older, zero-unowned, tag-given, wait-allowed, idle-zero}
 use Rattle.sound_records.proofs.Used.{has-block-used}
@@ -46,27 +43,21 @@ pub record Channel (p : List ℕ) (k : ℕ) : Type 0 where
   pub ending : ends-in-one p k ≡ true
 
 module _ (p : List ℕ) (t : Table) (k : ℕ) where
-  abbrev zeros : Bool
-  zeros = every (λ (f : ℕ). eqb (field p t k f) 0) (width t)
-
   live-then : used p t k ≡ true → record-fine p t k ≡ true → (live-fine p t k ≡ true) × (tag-once p t k ≡ true)
   unfolding record-fine
   live-then u h = both (live-fine p t k) (tag-once p t k) (rw u at h)
 
-  blank-then : used p t k ≡ false → record-fine p t k ≡ true → (first t ≤ k) × (zeros ≡ true)
+  blank-then : used p t k ≡ false → record-fine p t k ≡ true → (first t ≤ k) × (all-zero p t k ≡ true)
   unfolding record-fine blank-fine
-  blank-then u h = let a = both (leb (first t) k) zeros (rw u at h) in (leb-true (first t) k (a .0), a .1)
+  blank-then u h = let a = both (leb (first t) k) (all-zero p t k) (rw u at h) in (leb-true (first t) k (a .0), a .1)
 
   then-live : used p t k ≡ true → live-fine p t k ≡ true → tag-once p t k ≡ true → record-fine p t k ≡ true
   unfolding record-fine
   then-live u h o = rw (u, h, o)
 
-  then-blank : used p t k ≡ false → first t ≤ k → zeros ≡ true → record-fine p t k ≡ true
+  then-blank : used p t k ≡ false → first t ≤ k → all-zero p t k ≡ true → record-fine p t k ≡ true
   unfolding record-fine blank-fine
   then-blank u l z = rw (u, le-leb (first t) k l, z)
-
-  field-zero : zeros ≡ true → (f : ℕ) → f < width t → field p t k f ≡ 0
-  field-zero z f l = eqb-true _ _ (every-at (λ (f : ℕ). eqb (field p t k f) 0) (width t) z f l)
 
   -- in use: the rules of the fine entry, and the other way round
   used-entry : used p t k ≡ true → entry-fine p t k ≡ true → tag-once p t k ≡ true → Entry p t k
@@ -79,7 +70,7 @@ module _ (p : List ℕ) (t : Table) (k : ℕ) where
   entry-used e = search both-true depth 12
 
   -- not in use: zeros keep them all
-  unused-entry : used p t k ≡ false → zeros ≡ true → Entry p t k
+  unused-entry : used p t k ≡ false → all-zero p t k ≡ true → Entry p t k
   unfolding blank positioned tag-within tag-once owner-live tag-given has-block
   unused-entry u z = record {
     unused = rw (u, z);
@@ -90,9 +81,9 @@ module _ (p : List ℕ) (t : Table) (k : ℕ) where
     given = rw u;
   }
 
-  entry-unused : used p t k ≡ false → Entry p t k → zeros ≡ true
+  entry-unused : used p t k ≡ false → Entry p t k → all-zero p t k ≡ true
   unfolding blank
-  entry-unused u e = failing (used p t k) zeros (e .unused) u
+  entry-unused u e = failing (used p t k) (all-zero p t k) (e .unused) u
 
 -- a position that is not 0
 at-least : (k : ℕ) → not (eqb k 0) ≡ true → 1 ≤ k
@@ -107,11 +98,11 @@ module _ (p : List ℕ) (k : ℕ) where
   unfolding live-fine zero-fine
   job-live j = search (both-true, entry-used p Jobs k) depth 16
 
-  blank-job : used p Jobs k ≡ false → 1 ≤ k → zeros p Jobs k ≡ true → Job p k
+  blank-job : used p Jobs k ≡ false → 1 ≤ k → all-zero p Jobs k ≡ true → Job p k
   unfolding zero-exists zero-base zero-unowned priority-within accumulated-within timeout-within owner-older wait-allowed idle-zero
   blank-job u l z =
       let n : eqb k 0 ≡ false = ne-eqb k 0 (λ e. omega arith) in
-      let nought = field-zero p Jobs k z in
+      let nought = all-zero-at p Jobs k z in
       record {
         entry = unused-entry p Jobs k u z;
         nought = rw n;
@@ -172,4 +163,4 @@ module _ (p : List ℕ) (k : ℕ) where
     where
       go : (a : Bool) → used p t k ≡ a → has-block p t k ≡ true
       go true u = has-block-used p t k u ∙ le-leb (first t) k (past-first t h b)
-      go false u = let z = field-zero p t k (blank-then p t k u h .1) 2 (shared t 2 (omega arith)) in absurd (omega arith)
+      go false u = let z = all-zero-at p t k (blank-then p t k u h .1) 2 (shared t 2 (omega arith)) in absurd (omega arith)

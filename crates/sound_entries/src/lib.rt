@@ -2,15 +2,17 @@
 use picture::Table;
 use sound_matching::Walked;
 ghost use mathlib.Core.Path.{_≡_};
-ghost use mathlib.Core.Bool.{true, not, _||_};
+ghost use mathlib.Core.Bool.{true};
 ghost use Prim.Native.Nat.{_<_, _≤_};
 ghost use lib.ListN.{length};
-ghost use Rattle.words.specs.Each.{every};
 ghost use Rattle.picture.specs.Layout.{positions, heap-base as heapBase};
 ghost use Rattle.picture.specs.Records.{used};
 ghost use Rattle.picture.specs.declared.Table.the-variants.{Jobs, Channels};
-ghost use Rattle.sound_records.specs.Rules.{tags-differ as tagsDiffer};
+ghost use Rattle.sound_entries.specs.Entries.{note-of as noteOf, told-once as toldOnce, with-note as withNote};
 ghost use Rattle.sound_entries.specs.Entries.{entry-fine as entryFine, zero-fine as zeroFine, live-fine as liveFine, blank-fine as blankFine, entries-walked as entriesWalked};
+
+// The note that several positions have the same last six bits of their tags.
+const SEVERAL: u8 = 255;
 
 // The rules that a record in use of either table keeps.
 pub fn is_entry_fine(p: &[u32], t: Table, k: usize) -> bool
@@ -103,19 +105,28 @@ pub fn is_blank_fine(p: &[u32], t: Table, k: usize) -> bool
     }
 }
 
-// No lower position in use has the same tag; where that is not in doubt, none is looked at.
-pub fn is_tag_once(p: &[u32], t: Table, k: usize, doubtful: bool) -> bool
+// No lower position in use has the same tag. Under the last six bits of a tag stands a note: 0 where no lower position has them, the position + 1
+// where one has, more than that where several have; so none is looked at, or that one, or all. The note has position k afterwards.
+pub fn is_tag_once(p: &[u32], t: Table, k: usize, seen: &mut [u8; 64]) -> bool
     requires { ⌜ (heapBase ≤ length (now p)) × (k < positions t) ⌝ }
-    ensures { λ r. ⌜ r ≡ not doubtful || every (tagsDiffer (now (p .entry)) t k) k ⌝ }
+    ensures { λ r. ⌜ r ≡ toldOnce (now (p .entry)) t k (noteOf (now (p .entry)) t k (now (seen .entry))) ⌝ }
+    ensures { λ _. ⌜ now (seen .exit) ≡ withNote (now (p .entry)) t k (now (seen .entry)) ⌝ }
 {
-    if doubtful {
-        return sound_records::tag_alone(p, t, k);
+    let low = (sound_records::tag_at(p, t, k) % 64) as usize;
+    let note = seen[low];
+    if note == 0 {
+        seen[low] = (k + 1) as u8;
+        return true;
     }
-    true
+    seen[low] = SEVERAL;
+    if note <= k as u8 {
+        return sound_records::tags_differ(p, t, k, note as usize - 1);
+    }
+    sound_records::tag_alone(p, t, k)
 }
 
-// A walk over the table. It notes the position of each entry under its block's place, which only says where to look first.
-// A tag that no lower position has by its last six bits is used once; else all lower positions are looked at.
+// A walk over the table. It notes the position of each entry under its block's place, and under the last six bits of its tag, which only say where to
+// look first.
 pub fn walk_entries(p: &[u32], t: Table, noted: &mut [u8; 64]) -> Walked
     requires { ⌜ heapBase ≤ length (now p) ⌝ }
     ensures { λ r. ⌜ r ≡ entriesWalked (now (p .entry)) t ⌝ }
@@ -136,11 +147,9 @@ pub fn walk_entries(p: &[u32], t: Table, noted: &mut [u8; 64]) -> Walked
         if !is_live_fine(p, t, k) {
             return Walked::Broken;
         }
-        let low = (sound_records::tag_at(p, t, k) % 64) as usize;
-        if !is_tag_once(p, t, k, seen[low] == 1) {
+        if !is_tag_once(p, t, k, &mut seen) {
             return Walked::Broken;
         }
-        seen[low] = 1;
         noted[(picture_tables::field_of(p, t, k, picture::BASE) / 16 % 64) as usize] = k as u8;
         entries += sound_matching::one_of(first <= k);
         k += 1;

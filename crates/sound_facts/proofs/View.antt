@@ -21,7 +21,7 @@ use Rattle.picture.specs.declared.Table.{Table}
 use Rattle.picture.specs.declared.Table.the-variants.{Jobs, Channels}
 use Rattle.picture.specs.declared.Area.{Area}
 use Rattle.picture.specs.declared.Area.the-variants.{Heap, Transient}
-use Rattle.picture.proofs.Records.{used-below}
+use Rattle.picture.proofs.Records.{used-below, all-zero-at, all-zero-by}
 use Rattle.blocks.specs.Header.{size, kind, kind-of, queue-kind, job-kind, free, holder}
 use Rattle.blocks.specs.Walk.{good, next, blocks}
 use Rattle.blocks.proofs.Walk.{good-is, is-good}
@@ -68,7 +68,7 @@ module _ (p : List ℕ) where
 
   unused-by : (t : Table) (k f : ℕ) → blank p t k ≡ true → f < width t → used p t k ≡ false → field p t k f ≡ 0
   unfolding blank
-  unused-by t k f h l u = eqb-true _ _ (every-at (λ (g : ℕ). eqb (field p t k g) 0) (width t) (failing _ _ h u) f l)
+  unused-by t k f h l u = all-zero-at p t k (failing _ _ h u) f l
 
   below : (t : Table) (j k : ℕ) → tag-once p t k ≡ true → j < k → used p t j ≡ true → used p t k ≡ true → tag (number p t j) ≡ tag (number p t k) → ⊥
   unfolding tag-once tags-differ
@@ -217,7 +217,7 @@ module _ (p : List ℕ) where
   module _ (t : Table) (E : Entries p t) where
     is-blank : (k : ℕ) → k < positions t → blank p t k ≡ true
     unfolding blank
-    is-blank k l = or-when (used p t k) _ (λ u. every-by (λ (f : ℕ). eqb (field p t k f) 0) (width t) (λ f m. eq-eqb _ _ (E .unused k f l m u)))
+    is-blank k l = or-when (used p t k) _ (λ u. all-zero-by p t k (λ f m. E .unused k f l m u))
 
     is-positioned : (k : ℕ) → k < positions t → positioned p t k ≡ true
     unfolding positioned

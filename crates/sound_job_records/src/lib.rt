@@ -12,11 +12,9 @@ use sound_records::tag_at;
 ghost use mathlib.Core.Path.{_≡_};
 ghost use mathlib.Core.Bool.{true};
 ghost use Prim.Native.Nat.{_<_, _≤_};
-ghost use lib.Dec.{eqb};
 ghost use lib.ListN.{length};
-ghost use Rattle.words.specs.Each.{every};
-ghost use Rattle.picture.specs.Layout.{positions, width, heap-base as heapBase};
-ghost use Rattle.picture.specs.Records.{field, used};
+ghost use Rattle.picture.specs.Layout.{positions, heap-base as heapBase};
+ghost use Rattle.picture.specs.Records.{all-zero as allZero, used};
 ghost use Rattle.picture.specs.declared.Table.the-variants.{Jobs};
 ghost use Rattle.sound_records.specs.Rules.{zero-base as zeroBase, priority-within as priorityWithin, accumulated-within as accumulatedWithin, timeout-within as timeoutWithin};
 ghost use Rattle.sound_records.specs.Rules.{zero-exists as zeroExists, owner-older as ownerOlder, zero-unowned as zeroUnowned, wait-allowed as waitAllowed, idle-zero as idleZero};
@@ -57,7 +55,7 @@ pub fn timeout_within(p: &[u32], k: usize) -> bool
 // Every field of a job's record is zero.
 pub fn is_job_zero(p: &[u32], k: usize) -> bool
     requires { ⌜ (heapBase ≤ length (now p)) × (k < positions Jobs) ⌝ }
-    ensures { λ r. ⌜ r ≡ every (λ f. eqb (field (now (p .entry)) Jobs k f) 0) (width Jobs) ⌝ }
+    ensures { λ r. ⌜ r ≡ allZero (now (p .entry)) Jobs k ⌝ }
 {
     (field_of(p, Table::Jobs, k, picture::NUMBER) == 0)
         & (field_of(p, Table::Jobs, k, picture::OWNER) == 0)

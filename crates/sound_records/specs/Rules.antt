@@ -8,8 +8,8 @@ use lib.Signed.{leZ}
 use Rattle.words.specs.Words.{word}
 use Rattle.words.specs.Each.{every}
 use Rattle.words.specs.Signed.{eqZ}
-use Rattle.picture.specs.Layout.{nobody, width, last-word, greatest-tag, greatest-priority, hold, greatest-timeout, without-end}
-use Rattle.picture.specs.Records.{field, number, owner, base, priority, accumulated, timeout, waited-for, ending, used, ready}
+use Rattle.picture.specs.Layout.{nobody, last-word, greatest-tag, greatest-priority, hold, greatest-timeout, without-end}
+use Rattle.picture.specs.Records.{all-zero, number, owner, base, priority, accumulated, timeout, waited-for, ending, used, ready}
 use Rattle.picture.specs.Numbers.{tag, position, live}
 use Rattle.picture.specs.declared.Table.{Table}
 use Rattle.picture.specs.declared.Table.the-variants.{Jobs, Channels}
@@ -37,7 +37,7 @@ ends-in-one p k = not (used p Channels k) || eqb (ending p k) 1
 
 -- rules 25 and 26: "Unused records are all zero"
 unfoldable pub blank : List ℕ → Table → ℕ → Bool
-blank p t k = used p t k || every (λ (f : ℕ). eqb (field p t k f) 0) (width t)
+blank p t k = used p t k || all-zero p t k
 
 -- rules 27 and 28: "A number is tag × 65,536 + position"
 unfoldable pub positioned : List ℕ → Table → ℕ → Bool

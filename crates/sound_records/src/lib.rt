@@ -7,11 +7,10 @@ use picture_tables::is_used;
 ghost use mathlib.Core.Path.{_≡_};
 ghost use mathlib.Core.Bool.{true};
 ghost use Prim.Native.Nat.{_<_, _≤_};
-ghost use lib.Dec.{eqb};
 ghost use lib.ListN.{length};
 ghost use Rattle.words.specs.Each.{every};
-ghost use Rattle.picture.specs.Layout.{positions, width, heap-base as heapBase};
-ghost use Rattle.picture.specs.Records.{field, number, used};
+ghost use Rattle.picture.specs.Layout.{positions, heap-base as heapBase};
+ghost use Rattle.picture.specs.Records.{all-zero as allZero, number, used};
 ghost use Rattle.picture.specs.Numbers.{tag};
 ghost use Rattle.picture.specs.declared.Table.the-variants.{Channels};
 ghost use Rattle.sound_records.specs.Rules.{positioned, ends-in-one as endsInOne, tag-within as tagWithin, tags-differ as tagsDiffer};
@@ -36,7 +35,7 @@ pub fn ends_in_one(p: &[u32], k: usize) -> bool
 // Every field of a channel's record is zero.
 pub fn is_channel_zero(p: &[u32], k: usize) -> bool
     requires { ⌜ (heapBase ≤ length (now p)) × (k < positions Channels) ⌝ }
-    ensures { λ r. ⌜ r ≡ every (λ f. eqb (field (now (p .entry)) Channels k f) 0) (width Channels) ⌝ }
+    ensures { λ r. ⌜ r ≡ allZero (now (p .entry)) Channels k ⌝ }
 {
     (field_of(p, Table::Channels, k, picture::NUMBER) == 0)
         & (field_of(p, Table::Channels, k, picture::OWNER) == 0)
@@ -66,7 +65,10 @@ pub fn tags_differ(p: &[u32], t: Table, k: usize, j: usize) -> bool
     requires { ⌜ (heapBase ≤ length (now p)) × ((k < positions t) × (j < positions t)) ⌝ }
     ensures { λ r. ⌜ r ≡ tagsDiffer (now (p .entry)) t k j ⌝ }
 {
-    !is_used(p, t, j) | (tag_at(p, t, j) != tag_at(p, t, k))
+    if tag_at(p, t, j) != tag_at(p, t, k) {
+        return true;
+    }
+    !is_used(p, t, j)
 }
 
 // No lower position in use has the same tag.

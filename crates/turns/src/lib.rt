@@ -10,9 +10,9 @@ use picture::NUMBER;
 use picture::PRIORITY;
 use picture::TIMEOUT;
 use picture::Table;
-use picture::slot_of;
 use picture_tables::field_of;
 use picture_tables::is_ready;
+use picture_tables::put_field;
 use picture_tables::timeout_of;
 use words::bits_of;
 use words::put;
@@ -20,8 +20,8 @@ use words::signed_of;
 ghost use mathlib.Core.Path.{_≡_};
 ghost use Prim.Native.Nat.{_+_, _<_, _≤_, min};
 ghost use lib.ListN.{length};
-ghost use Rattle.picture.specs.Layout.{positions, width};
-ghost use Rattle.picture.specs.Records.{accumulated-field as accumulatedField, with-field as withField};
+ghost use Rattle.picture.specs.Layout.{positions};
+ghost use Rattle.picture.specs.Records.{accumulated-field as accumulatedField};
 ghost use Rattle.picture.specs.declared.Table.the-variants.{Jobs};
 ghost use Rattle.picture.specs.Layout.{hold, heap-base as heapBase};
 ghost use Rattle.turns.specs.Fields.{set-each as setEach};
@@ -32,14 +32,6 @@ ghost use Rattle.turns.specs.Tick.{fallen, ticked};
 pub struct Picked {
     pub number: u32,
     pub key: i32,
-}
-
-// Stores v as field f of the record of the job at position k.
-fn set_field(p: &mut [u32], k: usize, f: usize, v: u32)
-    requires { ⌜ (heapBase ≤ length (now p)) × ((k < positions Jobs) × (f < width Jobs)) ⌝ }
-    ensures { λ _. ⌜ now (p .exit) ≡ withField (now (p .entry)) Jobs k f v ⌝ }
-{
-    picture_tables::put_at(p, slot_of(Table::Jobs, k) + f, v);
 }
 
 // The job at m, or the one at position k where that is ready and has accumulated more.
@@ -106,7 +98,7 @@ fn give_gains(p: &mut [u32], m: usize)
 {
     for k in 0..JOBS {
         let v = accumulated_after(p, m, k);
-        set_field(p, k, ACCUMULATED, v);
+        put_field(p, Table::Jobs, k, ACCUMULATED, v);
     }
 }
 
@@ -127,7 +119,7 @@ pub fn pick_turn(p: &mut [u32]) -> Picked
     let number = field_of(p, Table::Jobs, m, NUMBER);
     let key = signed_of(field_of(p, Table::Jobs, m, KEY));
     give_gains(p, m);
-    set_field(p, m, KEY, 0);
+    put_field(p, Table::Jobs, m, KEY, 0);
     put(p, CURRENT_WORD, number);
     Picked { number, key }
 }
@@ -149,6 +141,6 @@ pub fn tick_frame(p: &mut [u32])
 {
     for k in 0..JOBS {
         let timeout = timeout_of(p, k);
-        set_field(p, k, TIMEOUT, bits_of(fallen(timeout)));
+        put_field(p, Table::Jobs, k, TIMEOUT, bits_of(fallen(timeout)));
     }
 }

@@ -23,6 +23,7 @@ pub fn listed(maker: &mut Maker) {
     without_current_and_unsound(maker, &CALLS);
     names(maker);
     openings(maker);
+    free_positions(maker);
     closings(maker);
     rings(maker);
     numbers(maker);
@@ -167,6 +168,21 @@ fn openings(maker: &mut Maker) {
         for name in [&b"PIPE_5"[..], b"PIPE_30000", b"PIPE_0"] {
             open(maker, &world, 0, name);
         }
+    }
+}
+
+/// Each position as the lowest free one, some above it free too, and their queues with them.
+fn free_positions(maker: &mut Maker) {
+    let mut full = World::new(1_024, 512);
+    let channels: Vec<u32> = (0..POSITIONS).map(|_| full.open(0, 1)).collect();
+    for lowest in 0..channels.len() {
+        let mut some_left = full.clone();
+        for (k, &channel) in channels.iter().enumerate().skip(lowest) {
+            if k == lowest || maker.random.once_in(2) {
+                some_left.call(2, [0x2, 0, 0, 0, channel, 0, 0, 0], b"");
+            }
+        }
+        open(maker, &some_left, 0, b"PIPE_1");
     }
 }
 

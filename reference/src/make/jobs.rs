@@ -34,6 +34,7 @@ pub fn listed(maker: &mut Maker) {
     without_current_and_unsound(maker, &CALLS);
     creations(maker);
     tables_used_up(maker);
+    free_positions(maker);
     deep_and_wide(maker);
     waits(maker);
     asks(maker);
@@ -167,6 +168,22 @@ fn tables_used_up(maker: &mut Maker) {
             call(maker, &world, 0x4, greatest, 0, 0, 0);
             call(maker, &world, 0x2, 0, 0, 0, 0);
         }
+    }
+}
+
+/// Each position as the lowest free one, some above it free too, and their blocks with them.
+fn free_positions(maker: &mut Maker) {
+    let mut full = World::new(1_024, 128);
+    let jobs: Vec<u32> = (1..POSITIONS).map(|_| full.create(false, 4)).collect();
+    for lowest in 0..jobs.len() {
+        let mut some_left = full.clone();
+        for (k, &job) in jobs.iter().enumerate().skip(lowest) {
+            if k == lowest || maker.random.once_in(2) {
+                some_left.call(1, [0x5, job, 0, 0, 0, 0, 0, 0], b"");
+                some_left.make_current(0);
+            }
+        }
+        call(maker, &some_left, 0x1, 0, 0, 4, 0);
     }
 }
 

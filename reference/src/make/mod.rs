@@ -62,8 +62,8 @@ impl TrialKind {
         match self {
             TrialKind::Sound => 1_750,
             TrialKind::Blocks => 450,
-            TrialKind::Jobs => 990,
-            TrialKind::Channels => 600,
+            TrialKind::Jobs => 1_015,
+            TrialKind::Channels => 625,
             TrialKind::Turns => 400,
             TrialKind::Door => 1_000,
             TrialKind::Errors => 300,

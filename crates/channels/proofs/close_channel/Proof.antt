@@ -1,4 +1,5 @@
 use Rattle.picture.specs.declared.Area.the-variants.{Heap}
+use Rattle.sound.proofs.Room.{sound-tables}
 use Rattle.rooms.proofs.Sizes.{areas-lie-in-a-sound-picture}
 use mathlib.Core.Path.{_≡_, sym, _∙_}
 use borrow.Author.Tests.{not-true, not-false}
@@ -40,7 +41,7 @@ returns c = meets-refuse _ _ _ _ (rw (sym (c .before .before .channel-named .ens
 
 remove-channel-requires : tie.Need-remove-channel-requires
 remove-channel-requires c κs = let f = c .before in let s = f .before .before .before .before .before .before .before .before in
-    (found f .below, areas-lie-in-a-sound-picture (s .args .p .now) (s .pre) Heap .small)
+    ((sound-tables (s .args .p .now) (s .pre), found f .below), areas-lie-in-a-sound-picture (s .args .p .now) (s .pre) Heap .small)
 
 same-length-3 : tie.Need-same-length-3
 same-length-3 c = search needs

@@ -5,6 +5,9 @@ use Rattle.picture.specs.declared.Area.the-variants.{Transient}
 use Rattle.calls.proofs.Outcome.{meets-refuse}
 use Rattle.rooms.proofs.Room.{placed-there}
 use Rattle.rooms.proofs.Sizes.{areas-lie-in-a-sound-picture}
+use Rattle.rooms.proofs.Tables.{placing-leaves-the-tables}
+use Rattle.sound.proofs.Room.{sound-tables}
+use Rattle.entering.proofs.Vacant.{free-record-stays-zero}
 use Rattle.creating.proofs.Ways.{position-free, no-position, tag-left, no-tag, create-dead, create-bad, create-no-position, create-no-tag, create-nowhere, create-there}
 use borrow.Author.Needs.{needs}
 use Rattle.creating.proofs.create.Statement.{statement}
@@ -21,6 +24,7 @@ use Rattle.rooms.proofs.block_length.Reads as block-length-reads
 use Rattle.rooms.proofs.header_byte.Reads as header-byte-reads
 use Rattle.rooms.proofs.place_in.Reads as place-in-reads
 use Rattle.words.proofs.word.Reads as word-reads
+use Rattle.picture.proofs.word_at.Reads as word-at-reads
 
 word-requires : tie.Need-word-requires
 word-requires c κs = search needs
@@ -57,7 +61,7 @@ returns-2 c = let o = rw (c .before .before .before .before .before .before .bef
     meets-refuse _ _ _ _ (create-bad _ _ _ o (rw (c .before .word2 .ensures) at (c .if1 .taken)))
 
 free-position-requires : tie.Need-free-position-requires
-free-position-requires c κs = search needs
+free-position-requires c κs = sound-tables _ (c .before .before .before .before .before .before .before .before .before .before .before .before .before .pre)
 
 same-length-5 : tie.Need-same-length-5
 same-length-5 c = search needs
@@ -72,8 +76,8 @@ returns-3 c = let o = rw (c .before .before .before .before .before .before .bef
 last-of-requires : tie.Need-last-of-requires
 last-of-requires c κs = search needs
 
-word-requires-3 : tie.Need-word-requires-3
-word-requires-3 c κs = search needs
+word-at-requires : tie.Need-word-at-requires
+word-at-requires c κs = let h = sound-tables _ (c .before .before .before .before .before .before .before .before .before .before .before .before .before .before .before .before .before .pre) in rw (c .last-of .ensures) (omega arith)
 
 same-length-7 : tie.Need-same-length-7
 same-length-7 c = search needs
@@ -83,10 +87,10 @@ same-length-8 c = search needs
 
 returns-4 : tie.Need-returns-4
 returns-4 c = let o = rw (c .before .before .before .before .before .before .before .before .before .before .before .before .before .before .word .ensures) at (sym (c .before .before .before .before .before .before .before .before .before .before .before .before .before .owner-for .ensures) ∙ c .before .before .before .before .before .before .before .before .before .before .before .owner .given .1) in
-    meets-refuse _ _ _ _ (create-no-tag _ _ _ o (rw (c .before .before .before .before .before .before .before .before .word2 .ensures) at (c .before .before .before .before .before .before .before .if1 .left)) (position-free _ Jobs (rw (c .before .before .before .before .before .free-position .ensures .0) at (c .before .before .before .before .if2 .left))) (no-tag _ Jobs (rw (c .before .word3 .ensures, c .before .before .last-of .ensures) at (c .if3 .taken))))
+    meets-refuse _ _ _ _ (create-no-tag _ _ _ o (rw (c .before .before .before .before .before .before .before .before .word2 .ensures) at (c .before .before .before .before .before .before .before .if1 .left)) (position-free _ Jobs (rw (c .before .before .before .before .before .free-position .ensures .0) at (c .before .before .before .before .if2 .left))) (no-tag _ Jobs (rw (c .before .word-at .ensures, c .before .before .last-of .ensures) at (c .if3 .taken))))
 
-word-requires-4 : tie.Need-word-requires-4
-word-requires-4 c κs = search needs
+word-requires-3 : tie.Need-word-requires-3
+word-requires-3 c κs = search needs
 
 cast-block-length : tie.Need-cast-block-length
 cast-block-length c = search needs
@@ -100,8 +104,8 @@ add-block-length c = search needs
 block-length-requires : tie.Need-block-length-requires
 block-length-requires c κs = search needs
 
-word-requires-5 : tie.Need-word-requires-5
-word-requires-5 c κs = search needs
+word-requires-4 : tie.Need-word-requires-4
+word-requires-4 c κs = search needs
 
 place-in-requires : tie.Need-place-in-requires
 place-in-requires c κs = areas-lie-in-a-sound-picture _ (c .before .before .before .before .before .before .before .before .before .before .before .before .before .before .before .before .before .before .before .before .before .before .before .before .before .pre) Transient .inside
@@ -122,9 +126,9 @@ returns-5 : tie.Need-returns-5
 returns-5 c = let o = rw (c .before .before .before .before .before .before .before .before .before .before .before .before .before .before .before .before .before .before .before .before .before .before .before .before .before .word .ensures) at (sym (c .before .before .before .before .before .before .before .before .before .before .before .before .before .before .before .before .before .before .before .before .before .before .before .before .owner-for .ensures) ∙ c .before .before .before .before .before .before .before .before .before .before .before .before .before .before .before .before .before .before .before .before .before .before .owner .given .1) in
     let enough = rw (c .before .before .before .before .before .before .before .before .before .before .before .before .before .before .before .before .before .before .before .word2 .ensures) at (c .before .before .before .before .before .before .before .before .before .before .before .before .before .before .before .before .before .before .if1 .left) in
     let place = position-free _ Jobs (rw (c .before .before .before .before .before .before .before .before .before .before .before .before .before .before .before .before .free-position .ensures .0) at (c .before .before .before .before .before .before .before .before .before .before .before .before .before .before .before .if2 .left)) in
-    let tagged = tag-left _ Jobs (rw (c .before .before .before .before .before .before .before .before .before .before .before .before .word3 .ensures, c .before .before .before .before .before .before .before .before .before .before .before .before .before .last-of .ensures) at (c .before .before .before .before .before .before .before .before .before .before .before .if3 .left)) in
-    let long = rw (c .before .before .before .before .before .before .before .before .before .word4 .ensures, c .before .before .before .before .before .before .before .before .before .before .before .before .before .before .before .before .before .before .before .word2 .ensures) at (c .before .before .before .before .before .before .before .before .block-length .ensures) in
-    create-nowhere _ _ _ o enough place tagged _ long _ (rw (c .before .before .before .before .before .before .word5 .ensures) at (c .before .before .before .before .place-in .ensures .leaves)) (sym (c .before .before .before .before .place-in .ensures .answers) ∙ c .enum-told2 .given .1)
+    let tagged = tag-left _ Jobs (rw (c .before .before .before .before .before .before .before .before .before .before .before .before .word-at .ensures, c .before .before .before .before .before .before .before .before .before .before .before .before .before .last-of .ensures) at (c .before .before .before .before .before .before .before .before .before .before .before .if3 .left)) in
+    let long = rw (c .before .before .before .before .before .before .before .before .before .word3 .ensures, c .before .before .before .before .before .before .before .before .before .before .before .before .before .before .before .before .before .before .before .word2 .ensures) at (c .before .before .before .before .before .before .before .before .block-length .ensures) in
+    create-nowhere _ _ _ o enough place tagged _ long _ (rw (c .before .before .before .before .before .before .word4 .ensures) at (c .before .before .before .before .place-in .ensures .leaves)) (sym (c .before .before .before .before .place-in .ensures .answers) ∙ c .enum-told2 .given .1)
 
 add-enter : tie.Need-add-enter
 add-enter c = search needs
@@ -133,7 +137,13 @@ header-byte-requires : tie.Need-header-byte-requires
 header-byte-requires c κs = let h = placed-there _ Transient _ _ (sym (c .before .before .before .before .before .before .place-in .ensures .answers) ∙ c .before .before .i .given .1) in omega (arith, h .1 .1, areas-lie-in-a-sound-picture _ (c .before .before .before .before .before .before .before .before .before .before .before .before .before .before .before .before .before .before .before .before .before .before .before .before .before .before .before .before .before .before .before .before .pre) Transient .small)
 
 enter-requires : tie.Need-enter-requires
-enter-requires c κs = search needs
+enter-requires c κs = let s = c .before .before .before .before .before .before .before .before .before .before .before .before .before .before .before .before .before .before .before .before .before .before .before .before .before .before .before .before .before .before .before .before .before in
+    let place = c .before .before .before .before .before .before .before .before .before .before .before .before .before .before .before .before .before .before .before .free-position .ensures .0 in
+    let free = c .before .before .before .before .before .before .before .before .before .before .before .before .before .before .before .before .before .before .if2 .left in
+    let placing = c .before .before .before .before .before .before .before .place-in .ensures in
+    let behind = placing-leaves-the-tables (s .args .p .now) _ Transient (areas-lie-in-a-sound-picture (s .args .p .now) (s .pre) Transient) _ _ _ _ _ (sym (placing .answers) ∙ c .before .before .before .i .given .1) (placing .leaves) in
+    let z = behind .long in
+    ((omega (arith, sound-tables (s .args .p .now) (s .pre)), (free, rw place (free-record-stays-zero (s .args .p .now) _ (s .pre) Jobs (rw place at free) (behind .tables)))), omega (arith, c .before .before .before .before .before .before .before .before .before .before .before .before .before .before .if3 .left))
 
 add-number-of : tie.Need-add-number-of
 add-number-of c = search needs
@@ -154,12 +164,12 @@ returns-6 : tie.Need-returns-6
 returns-6 c = let o = rw (c .before .before .before .before .before .before .before .before .before .before .before .before .before .before .before .before .before .before .before .before .before .before .before .before .before .before .before .before .before .before .before .before .before .before .before .before .word .ensures) at (sym (c .before .before .before .before .before .before .before .before .before .before .before .before .before .before .before .before .before .before .before .before .before .before .before .before .before .before .before .before .before .before .before .before .before .before .before .owner-for .ensures) ∙ c .before .before .before .before .before .before .before .before .before .before .before .before .before .before .before .before .before .before .before .before .before .before .before .before .before .before .before .before .before .before .before .before .before .owner .given .1) in
     let enough = rw (c .before .before .before .before .before .before .before .before .before .before .before .before .before .before .before .before .before .before .before .before .before .before .before .before .before .before .before .before .before .before .word2 .ensures) at (c .before .before .before .before .before .before .before .before .before .before .before .before .before .before .before .before .before .before .before .before .before .before .before .before .before .before .before .before .before .if1 .left) in
     let place = position-free _ Jobs (rw (c .before .before .before .before .before .before .before .before .before .before .before .before .before .before .before .before .before .before .before .before .before .before .before .before .before .before .before .free-position .ensures .0) at (c .before .before .before .before .before .before .before .before .before .before .before .before .before .before .before .before .before .before .before .before .before .before .before .before .before .before .if2 .left)) in
-    let tagged = tag-left _ Jobs (rw (c .before .before .before .before .before .before .before .before .before .before .before .before .before .before .before .before .before .before .before .before .before .before .before .word3 .ensures, c .before .before .before .before .before .before .before .before .before .before .before .before .before .before .before .before .before .before .before .before .before .before .before .before .last-of .ensures) at (c .before .before .before .before .before .before .before .before .before .before .before .before .before .before .before .before .before .before .before .before .before .before .if3 .left)) in
-    let long = rw (c .before .before .before .before .before .before .before .before .before .before .before .before .before .before .before .before .before .before .before .before .word4 .ensures, c .before .before .before .before .before .before .before .before .before .before .before .before .before .before .before .before .before .before .before .before .before .before .before .before .before .before .before .before .before .before .word2 .ensures) at (c .before .before .before .before .before .before .before .before .before .before .before .before .before .before .before .before .before .before .before .block-length .ensures) in
-    let leaves = rw (c .before .before .before .before .before .before .before .before .before .before .before .before .before .before .before .before .before .word5 .ensures) at (c .before .before .before .before .before .before .before .before .before .before .before .before .before .before .before .place-in .ensures .leaves) in
+    let tagged = tag-left _ Jobs (rw (c .before .before .before .before .before .before .before .before .before .before .before .before .before .before .before .before .before .before .before .before .before .before .before .word-at .ensures, c .before .before .before .before .before .before .before .before .before .before .before .before .before .before .before .before .before .before .before .before .before .before .before .before .last-of .ensures) at (c .before .before .before .before .before .before .before .before .before .before .before .before .before .before .before .before .before .before .before .before .before .before .if3 .left)) in
+    let long = rw (c .before .before .before .before .before .before .before .before .before .before .before .before .before .before .before .before .before .before .before .before .word3 .ensures, c .before .before .before .before .before .before .before .before .before .before .before .before .before .before .before .before .before .before .before .before .before .before .before .before .before .before .before .before .before .before .word2 .ensures) at (c .before .before .before .before .before .before .before .before .before .before .before .before .before .before .before .before .before .before .before .block-length .ensures) in
+    let leaves = rw (c .before .before .before .before .before .before .before .before .before .before .before .before .before .before .before .before .before .word4 .ensures) at (c .before .before .before .before .before .before .before .before .before .before .before .before .before .before .before .place-in .ensures .leaves) in
     let at = sym (c .before .before .before .before .before .before .before .before .before .before .before .before .before .before .before .place-in .ensures .answers) ∙ c .before .before .before .before .before .before .before .before .before .before .before .i .given .1 in
-    let written = rw (c .before .before .before .before .before .before .before .before .header-byte .ensures, c .before .before .before .before .before .before .before .before .before .before .before .before .before .before .before .before .before .before .before .before .before .before .before .before .before .before .before .free-position .ensures .0, c .before .before .before .before .before .before .before .before .before .before .before .before .before .before .before .before .before .before .before .before .before .before .before .word3 .ensures, c .before .before .before .before .before .before .before .before .before .before .before .before .before .before .before .before .before .before .before .before .before .before .before .before .last-of .ensures) at (c .before .before .before .before .before .before .before .enter .ensures) in
-    let given = rw (c .before .before .before .number-of .ensures, c .before .before .before .before .before .before .before .before .before .before .before .before .before .before .before .before .before .before .before .before .before .before .before .before .before .before .before .free-position .ensures .0, c .before .before .before .before .before .before .before .before .before .before .before .before .before .before .before .before .before .before .before .before .before .before .before .word3 .ensures, c .before .before .before .before .before .before .before .before .before .before .before .before .before .before .before .before .before .before .before .before .before .before .before .before .last-of .ensures) at (c .before .before .answer-job .ensures) in
+    let written = rw (c .before .before .before .before .before .before .before .before .header-byte .ensures, c .before .before .before .before .before .before .before .before .before .before .before .before .before .before .before .before .before .before .before .before .before .before .before .before .before .before .before .free-position .ensures .0, c .before .before .before .before .before .before .before .before .before .before .before .before .before .before .before .before .before .before .before .before .before .before .before .word-at .ensures, c .before .before .before .before .before .before .before .before .before .before .before .before .before .before .before .before .before .before .before .before .before .before .before .before .last-of .ensures) at (c .before .before .before .before .before .before .before .enter .ensures) in
+    let given = rw (c .before .before .before .number-of .ensures, c .before .before .before .before .before .before .before .before .before .before .before .before .before .before .before .before .before .before .before .before .before .before .before .before .before .before .before .free-position .ensures .0, c .before .before .before .before .before .before .before .before .before .before .before .before .before .before .before .before .before .before .before .before .before .before .before .word-at .ensures, c .before .before .before .before .before .before .before .before .before .before .before .before .before .before .before .before .before .before .before .before .before .before .before .before .last-of .ensures) at (c .before .before .answer-job .ensures) in
     create-there _ _ _ o enough place tagged _ long _ leaves _ _ _ at written given
 
 pub create-spec : {M : Type 1} → statement M
@@ -182,16 +192,16 @@ create-spec =
     same-length-6
     returns-3
     last-of-requires
-    word-requires-3
+    word-at-requires
     same-length-7
     same-length-8
     returns-4
-    word-requires-4
+    word-requires-3
     cast-block-length
     cast-block-length-2
     add-block-length
     block-length-requires
-    word-requires-5
+    word-requires-4
     place-in-requires
     enum-known-i
     enum-told-2

@@ -12,7 +12,7 @@ use Rattle.emptying.proofs.empty_table.Reads as reads
 use Rattle.emptying.proofs.empty_table.Lts as lts
 use Rattle.emptying.proofs.blank.Reads as blank-reads
 use Rattle.masks.proofs.difference.Reads as difference-reads
-use Rattle.picture.proofs.members_of.Reads as members-of-reads
+use Rattle.picture.proofs.members_at.Reads as members-at-reads
 use Rattle.picture.proofs.positions_of.Reads as positions-of-reads
 use Rattle.picture.proofs.put_members.Reads as put-members-reads
 
@@ -43,14 +43,14 @@ loop-again c = let w = c .before .before in
     let l = w .before .before .before .loop in
     (omega arith, (ap length (w .blank .ensures) ∙ length-blanked _ _ _ _ ∙ l .inv .1 .0, w .blank .ensures ∙ rw (l .inv .1 .1, each-more _ _ _)))
 
-members-of-requires : tie.Need-members-of-requires Inv-loop μ-loop
-members-of-requires c κs = search needs
+members-at-requires : tie.Need-members-at-requires Inv-loop μ-loop
+members-at-requires c κs = search needs
 
 difference-requires : tie.Need-difference-requires Inv-loop μ-loop
 difference-requires c κs = search needs
 
 put-members-requires : tie.Need-put-members-requires Inv-loop μ-loop
-put-members-requires c κs = omega (arith, c .difference .ensures .1, c .before .before .members-of .ensures .1)
+put-members-requires c κs = omega (arith, c .difference .ensures .1, c .before .before .members-at .ensures .1)
 
 same-length : tie.Need-same-length Inv-loop μ-loop
 same-length c = search needs
@@ -64,7 +64,7 @@ returns c =
     let l = m .before .before in
     let a = l .before in
     let e : a .loop .k ≡ a .before .positions-of .result = omega arith in
-    rw (u .put-members .ensures, d .difference .ensures .0, m .members-of .ensures .0, a .loop .inv .1 .1, e, a .before .positions-of .ensures)
+    rw (u .put-members .ensures, d .difference .ensures .0, m .members-at .ensures .0, a .loop .inv .1 .1, e, a .before .positions-of .ensures)
 
 pub empty-table-spec : {M : Type 1} → statement M
 empty-table-spec =
@@ -78,7 +78,7 @@ empty-table-spec =
     add-k
     loop-less
     loop-again
-    members-of-requires
+    members-at-requires
     difference-requires
     put-members-requires
     same-length

@@ -4,6 +4,7 @@ use Rattle.picture.specs.Numbers.{job-at}
 use Rattle.calls.proofs.Found.{Found, job-found}
 use Rattle.calls.specs.Registers.{D1, meant}
 use Rattle.calls.proofs.Outcome.{meets-refuse, meets-succeed}
+use Rattle.sound.proofs.Room.{sound-tables}
 use Rattle.ending.proofs.Calls.{areas-within, force-remove-no-job, force-remove-job-0, force-remove-ends}
 use borrow.Author.Needs.{needs}
 use Rattle.ending.proofs.force_remove.Statement.{statement}
@@ -64,7 +65,7 @@ word-requires-2 c κs = search needs
 end-tree-requires : tie.Need-end-tree-requires
 end-tree-requires c κs = let k = c .before .before .before .before in
     let s = k .before .before .before .before .before .before .before .before .before .before in
-    (job-found _ _ _ (job-is-at k) .within, areas-within (s .args .p .now) (s .pre))
+    ((sound-tables (s .args .p .now) (s .pre), job-found _ _ _ (job-is-at k) .within), areas-within (s .args .p .now) (s .pre))
 
 clear-requires : tie.Need-clear-requires
 clear-requires c κs = search needs

@@ -11,7 +11,7 @@ use Rattle.entering.proofs.write_record.Reads as write-record-reads
 use Rattle.picture.proofs.number_of.Reads as number-of-reads
 
 number-of-requires : tie.Need-number-of-requires
-number-of-requires c κs = (c .before .before .pre .1, omega (arith, c .before .before .pre .0, positions-named (c .before .before .args .t)))
+number-of-requires c κs = let s = c .before .before in (s .pre .1, omega (arith, s .pre .0 .1 .0, positions-named (s .args .t)))
 
 write-record-requires : tie.Need-write-record-requires
 write-record-requires c κs = search needs
@@ -24,7 +24,8 @@ same-length c = search needs
 
 returns : tie.Need-returns
 unfolding entered
-returns c = rw (c .before .before .count-entry .ensures, c .before .before .before .before .before .before .write-record .ensures, c .before .before .before .before .before .before .before .number-of .ensures)
+returns c = let n = c .before .before in let w = n .before .before .before .before in
+    rw (n .count-entry .ensures, w .write-record .ensures, w .before .number-of .ensures)
 
 pub enter-spec : {M : Type 1} → statement M
 enter-spec =

@@ -1,30 +1,24 @@
-use Rattle.masks.proofs.Masks.{one-shifted, held, without-bit-clear, without-bit-taken}
-use borrow.Author.Tests.{eqb-true}
-use mathlib.Core.Path.{sym, _∙_}
+use mathlib.Core.Path.{_∙_}
+use Rattle.masks.proofs.Masks.{one-shifted, without-bit-is}
 use borrow.Author.Needs.{needs}
 use Rattle.masks.proofs.without_member.Statement.{statement}
 use Rattle.masks.proofs.without_member.Tie as tie
 use Rattle.masks.proofs.without_member.Reads as reads
 use Rattle.masks.proofs.without_member.Lts as lts
-use Rattle.masks.proofs.is_member.Reads as is-member-reads
+use Rattle.masks.proofs.difference.Reads as difference-reads
 
-is-member-requires : tie.Need-is-member-requires
-is-member-requires c κs = search needs
+-- src/lib.rt:29:21
+shl-difference : tie.Need-shl-difference
+shl-difference c = search needs
 
-shl-result : tie.Need-shl-result
-shl-result c = search needs
+-- src/lib.rt:29:5
+difference-requires : tie.Need-difference-requires
+difference-requires c κs = search needs
 
-sub-result : tie.Need-sub-result
-sub-result c = let a = c .before .before in
-    rw (one-shifted (a .args .k) (a .pre)) (held (a .args .k) (a .args .set) (eqb-true _ _ (sym (c .before .is-member .ensures) ∙ c .if1 .taken)) .0)
-
+-- src/lib.rt:25:1
 returns : tie.Need-returns
-returns c = let a = c .before .before in
-    rw (one-shifted (a .args .k) (a .pre)) (sym (without-bit-taken _ _ (sym (c .before .is-member .ensures) ∙ c .if1 .taken)))
-
-returns-2 : tie.Need-returns-2
-returns-2 c = sym (without-bit-clear _ _ (sym (c .before .is-member .ensures) ∙ c .if1 .left))
+returns c = let a = c .before in
+    rw (one-shifted (a .args .k) (a .pre)) at (c .difference .ensures .0) ∙ without-bit-is _ _ (a .pre) (a .fits .set .fits)
 
 pub without-member-spec : {M : Type 1} → statement M
-without-member-spec =
-    tie.close (tie.spec is-member-requires shl-result sub-result returns returns-2)
+without-member-spec = tie.close (tie.spec shl-difference difference-requires returns)

@@ -4,7 +4,7 @@ use Rattle.opening.proofs.enter_channel.Statement.{statement}
 use Rattle.opening.proofs.enter_channel.Tie as tie
 use Rattle.opening.proofs.enter_channel.Reads as reads
 use Rattle.opening.proofs.enter_channel.Lts as lts
-use Rattle.calls.proofs.put_field.Reads as put-field-reads
+use Rattle.picture_tables.proofs.put_field.Reads as put-field-reads
 use Rattle.entering.proofs.enter.Reads as enter-reads
 use Rattle.rooms.proofs.header_byte.Reads as header-byte-reads
 

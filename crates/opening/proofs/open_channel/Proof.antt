@@ -16,6 +16,9 @@ use Rattle.calls.specs.Registers.{meant}
 use Rattle.calls.proofs.Outcome.{meets-refuse}
 use Rattle.rooms.proofs.Room.{placed-there}
 use Rattle.rooms.proofs.Sizes.{areas-lie-in-a-sound-picture}
+use Rattle.rooms.proofs.Tables.{placing-leaves-the-tables, writing-leaves-the-tables}
+use Rattle.sound.proofs.Room.{sound-tables}
+use Rattle.entering.proofs.Vacant.{free-record-stays-zero}
 use Rattle.names.specs.Names.{key-of, good, number-in, named}
 use Rattle.opening.proofs.Ways.{open-dead, open-misnamed, open-no-position, open-no-tag, open-nowhere, open-there}
 use borrow.Author.Needs.{needs}
@@ -38,6 +41,7 @@ use Rattle.picture.proofs.number_of.Reads as number-of-reads
 use Rattle.rooms.proofs.place_in.Reads as place-in-reads
 use Rattle.words.proofs.put.Reads as put-reads
 use Rattle.words.proofs.word.Reads as word-reads
+use Rattle.picture.proofs.word_at.Reads as word-at-reads
 
 -- the job that D1 means
 owner : (c : tie.After-number-meant) → c .number-meant .result .0 ≡ meant (c .before .before .before .before .before .before .before .args .p .now) (word (c .before .before .before .before .before .before .before .args .d .now) 1)
@@ -54,7 +58,7 @@ free : (c : tie.Else2) → free-position (c .before .before .before .before .bef
 free c = rw (c .before .free-position .ensures .0) at (c .if2 .left)
 
 tagged : (c : tie.Else3) → word (c .before .before .before .before .before .before .before .before .before .before .before .before .before .before .before .before .before .before .before .before .before .args .p .now) 3 < greatest-tag
-tagged c = rw (c .before .word2 .ensures, c .before .before .last-of .ensures) at (c .if3 .left)
+tagged c = rw (c .before .word-at .ensures, c .before .before .last-of .ensures) at (c .if3 .left)
 
 -- the block was placed in the heap
 below : (c : tie.After-known-told) → c .before .i .given .0 .0 < 16384
@@ -109,7 +113,7 @@ returns-2 c = let t = c .before in let g = t .before in let r = g .before in
     open-misnamed _ _ _ _ (lives (r .before)) _ (rw (r .read-name .ensures) at (sym (g .is-good .ensures) ∙ not-true _ (t .if1 .taken))) (toZ-ofZ w32 (c .key-of .result) (record { sfits = c .key-of .ok }) ∙ c .key-of .ensures ∙ ap key-of (r .read-name .ensures))
 
 free-position-requires : tie.Need-free-position-requires
-free-position-requires c κs = search needs
+free-position-requires c κs = sound-tables _ (c .before .before .before .before .before .before .before .before .before .before .before .before .before .before .before .pre)
 
 same-length-5 : tie.Need-same-length-5
 same-length-5 c = search needs
@@ -124,8 +128,8 @@ returns-3 c = let f = c .before in let x = f .before .before in
 last-of-requires : tie.Need-last-of-requires
 last-of-requires c κs = search needs
 
-word-requires-2 : tie.Need-word-requires-2
-word-requires-2 c κs = search needs
+word-at-requires : tie.Need-word-at-requires
+word-at-requires c κs = let h = sound-tables _ (c .before .before .before .before .before .before .before .before .before .before .before .before .before .before .before .before .before .before .before .pre) in rw (c .last-of .ensures) (omega arith)
 
 same-length-7 : tie.Need-same-length-7
 same-length-7 c = search needs
@@ -135,7 +139,7 @@ same-length-8 c = search needs
 
 returns-4 : tie.Need-returns-4
 returns-4 c = let w = c .before in let y = w .before .before .before in let x = y .before .before .before in
-    meets-refuse _ _ _ _ (open-no-tag _ _ _ _ (lives (x .before .before .before)) (fair x) (free y) (rw (w .word2 .ensures, w .before .last-of .ensures) at (c .if3 .taken)))
+    meets-refuse _ _ _ _ (open-no-tag _ _ _ _ (lives (x .before .before .before)) (fair x) (free y) (rw (w .word-at .ensures, w .before .last-of .ensures) at (c .if3 .taken)))
 
 number-in-requires : tie.Need-number-in-requires
 number-in-requires c κs = search needs
@@ -178,8 +182,11 @@ add-enter-channel : tie.Need-add-enter-channel
 add-enter-channel c = search needs
 
 enter-channel-requires : tie.Need-enter-channel-requires
-enter-channel-requires c κs = let K = c .before .before .before .before .before in let P = K .before .before .before .before .before in let z = P .before .before .before .before in let w = z .before in let y = w .before .before .before in
-    ((y .if2 .left, omega (arith, z .if3 .left)), below K)
+enter-channel-requires c κs = let U = c .before .before .before in let K = c .before .before .before .before .before in let P = K .before .before .before .before .before in let z = P .before .before .before .before in let y = z .before .before .before .before in let s = c .before .before .before .before .before .before .before .before .before .before .before .before .before .before .before .before .before .before .before .before .before .before .before .before .before .before .before .before .before .before .before .before .before .before .before in
+    let placed = placing-leaves-the-tables (s .args .p .now) _ Heap (areas-lie-in-a-sound-picture (s .args .p .now) (s .pre) Heap) _ _ _ _ _ (sym (P .place-in .ensures .answers) ∙ K .before .i .given .1) (P .place-in .ensures .leaves) in
+    let behind = writing-leaves-the-tables (s .args .p .now) _ _ _ _ _ placed (U .put .ensures) in
+    let long = behind .long in
+    (((omega (arith, sound-tables (s .args .p .now) (s .pre)), (y .if2 .left, rw (y .before .free-position .ensures .0) (free-record-stays-zero (s .args .p .now) _ (s .pre) Channels (free y) (behind .tables)))), omega (arith, z .if3 .left)), below K)
 
 add-number-of : tie.Need-add-number-of
 add-number-of c = search needs
@@ -201,8 +208,8 @@ returns-6 c = let a = c .before .before in let m = a .before in let E = m .befor
     let P = K .before .before .before .before .before in let u = P .before .before in let n = u .before in let z = n .before in let w = z .before in let y = w .before .before .before in let f = y .before in let x = f .before .before in let r = x .before .before in
     open-there _ _ _ _ (lives (r .before)) (fair x) (free y) (tagged z) (n .number-in .result) _ _ (n .number-in .ensures ∙ ap number-in (r .read-name .ensures)) (owner (r .before .before .before .before .before)) (u .round-up .ensures) _ (P .place-in .ensures .leaves)
     (K .before .i .given .0 .0) _ _ (sym (P .place-in .ensures .answers) ∙ K .before .i .given .1)
-    (E .enter-channel .ensures ∙ rw (U .put .ensures, f .free-position .ensures .0, w .word2 .ensures, w .before .last-of .ensures))
-    (a .answer-channel .ensures ∙ rw (m .number-of .ensures, f .free-position .ensures .0, w .word2 .ensures, w .before .last-of .ensures))
+    (E .enter-channel .ensures ∙ rw (U .put .ensures, f .free-position .ensures .0, w .word-at .ensures, w .before .last-of .ensures))
+    (a .answer-channel .ensures ∙ rw (m .number-of .ensures, f .free-position .ensures .0, w .word-at .ensures, w .before .last-of .ensures))
 
 pub open-channel-spec : {M : Type 1} → statement M
 open-channel-spec =
@@ -227,7 +234,7 @@ open-channel-spec =
     same-length-6
     returns-3
     last-of-requires
-    word-requires-2
+    word-at-requires
     same-length-7
     same-length-8
     returns-4

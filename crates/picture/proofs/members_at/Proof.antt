@@ -1,9 +1,6 @@
-use Prim.Native.Nat.{ℕ, _<_, _≤_}
 use native.Mathlib.Omega.{arith}
-use Rattle.picture.specs.Layout.{mask-word, heap-base}
 use Rattle.picture.specs.Records.{members}
-use Rattle.picture.specs.declared.Table.{Table}
-use Rattle.picture.specs.declared.Table.the-variants.{Jobs, Channels}
+use Rattle.picture.proofs.Members.{members-fit, members-within}
 use borrow.Author.Needs.{needs}
 use Rattle.picture.proofs.members_at.Statement.{statement}
 use Rattle.picture.proofs.members_at.Tie as tie
@@ -12,22 +9,18 @@ use Rattle.picture.proofs.members_at.Lts as lts
 use Rattle.picture.proofs.mask_of.Reads as mask-of-reads
 use Rattle.picture.proofs.word_at.Reads as word-at-reads
 
-within : (t : Table) (n : ℕ) → heap-base ≤ n → mask-word t < n
-within Jobs n l = omega arith
-within Channels n l = omega arith
-
 mask-of-requires : tie.Need-mask-of-requires
 mask-of-requires c κs = search needs
 
 word-at-requires : tie.Need-word-at-requires
-word-at-requires c κs = rw (c .mask-of .ensures) (within (c .before .before .args .t) _ (c .before .before .pre))
+word-at-requires c κs = rw (c .mask-of .ensures) (members-within (c .before .before .args .t) _ (c .before .before .pre))
 
 cast-result : tie.Need-cast-result
 cast-result c = search needs
 
 returns : tie.Need-returns
 unfolding members
-returns c = rw (c .word-at .ensures, c .before .mask-of .ensures)
+returns c = (rw (c .word-at .ensures, c .before .mask-of .ensures), members-fit (c .before .before .before .args .t) (c .word-at .result) (omega arith))
 
 pub members-at-spec : {M : Type 1} → statement M
 members-at-spec = tie.close (tie.spec mask-of-requires word-at-requires cast-result returns)

@@ -1,13 +1,12 @@
-use lib.Dec.{eqb}
-use lib.ListN.{getD}
 use Rattle.sound_entries.proofs.Passed.{Passed, passed-none, passed-blank, passed-live, not-blank, not-live, not-once, passed-all}
 use Rattle.sound_matching.specs.Match.{first}
+use Rattle.sound_entries.specs.Entries.{several}
 use Rattle.picture.specs.Layout.{positions}
 use Rattle.picture.proofs.Records.{shared}
 use Rattle.picture.proofs.Members.{positions-within}
 use borrow.Author.Tests.{not-true, not-false}
 use mathlib.Core.Path.{_≡_, sym, _∙_}
-use Prim.Native.Nat.{_-_, _%_, _≤_}
+use Prim.Native.Nat.{_-_, _≤_, _<_}
 use borrow.Author.Needs.{needs}
 use native.Mathlib.Omega.{arith}
 use Rattle.sound_entries.proofs.walk_entries.Statement.{statement}
@@ -20,7 +19,6 @@ use Rattle.sound_entries.proofs.is_tag_once.Reads as is-tag-once-reads
 use Rattle.sound_matching.proofs.first_of.Reads as first-of-reads
 use Rattle.sound_matching.proofs.one_of.Reads as one-of-reads
 use Rattle.picture.proofs.positions_of.Reads as positions-of-reads
-use Rattle.sound_records.proofs.tag_at.Reads as tag-at-reads
 use Rattle.picture_tables.proofs.field_of.Reads as field-of-reads
 use Rattle.picture_tables.proofs.is_used.Reads as is-used-reads
 
@@ -29,6 +27,10 @@ Inv-loop p t noted₀ n f seen₀ entries₀ k₀ noted seen entries k = (n ≡ 
 
 abbrev μ-loop : tie.MeasureT-loop
 μ-loop p t noted₀ n f seen₀ entries₀ k₀ noted seen entries k = n - k
+
+-- a position is none of many
+below-several : (l : tie.In-loop Inv-loop μ-loop) → l .before .loop .k < several
+below-several l = omega (arith, positions-within (l .before .before .before .before .before .args .t), l .before .loop .inv .0, l .loop-test .taken)
 
 positions-of-requires : tie.Need-positions-of-requires Inv-loop μ-loop
 positions-of-requires c κs = search needs
@@ -77,17 +79,6 @@ returns-2 c =
     let l = u .before .before in
     not-live _ _ _ (rw (l .before .loop .inv .0) at (l .loop-test .taken)) (sym (u .before .is-used .ensures) ∙ not-false _ (u .if1 .left)) (sym (c .before .is-live-fine .ensures) ∙ not-true _ (c .if3 .taken))
 
-tag-at-requires : tie.Need-tag-at-requires Inv-loop μ-loop
-tag-at-requires c κs =
-    let l = c .before .before .before .before in
-    (l .before .before .before .before .before .pre, rw (l .before .loop .inv .0) at (l .loop-test .taken))
-
-cast-low : tie.Need-cast-low Inv-loop μ-loop
-cast-low c = search needs
-
-array-read-is-tag-once : tie.Need-array-read-is-tag-once Inv-loop μ-loop
-array-read-is-tag-once c = search needs
-
 is-tag-once-requires : tie.Need-is-tag-once-requires Inv-loop μ-loop
 is-tag-once-requires c κs =
     let l = c .before .before .before .before .before in
@@ -98,15 +89,10 @@ returns-3 c =
     let v = c .before .before .before in
     let u = v .before .before in
     let l = u .before .before in
-    not-once _ _ _ (eqb (getD (l .before .loop .seen) (c .before .before .tag-at .result % 64) 0) 1) (rw (l .before .loop .inv .0) at (l .loop-test .taken)) (sym (u .before .is-used .ensures) ∙ not-false _ (u .if1 .left)) (sym (c .before .is-tag-once .ensures) ∙ not-true _ (c .if4 .taken))
-
-array-write-seen : tie.Need-array-write-seen Inv-loop μ-loop
-array-write-seen c = search needs
+    not-once _ _ _ _ (rw (l .before .loop .inv .0) at (l .loop-test .taken)) (sym (u .before .is-used .ensures) ∙ not-false _ (u .if1 .left)) (sym (c .before .is-tag-once .ensures .0) ∙ not-true _ (c .if4 .taken))
 
 cast-noted : tie.Need-cast-noted Inv-loop μ-loop
-cast-noted c =
-    let l = c .before .before .before .before .before .before .before in
-    record { fits = omega (arith, positions-within (l .before .before .before .before .before .args .t), l .before .loop .inv .0, l .loop-test .taken) }
+cast-noted c = record { fits = omega (arith, below-several (c .before .before .before .before .before .before .before)) }
 
 field-of-requires : tie.Need-field-of-requires Inv-loop μ-loop
 field-of-requires c κs =
@@ -135,12 +121,12 @@ loop-less-2 c = search needs
 loop-again-2 : tie.Need-loop-again-2 Inv-loop μ-loop
 loop-again-2 c =
     let o = c .before .before in
-    let a = o .before .before in
-    let v = a .before in
+    let a = o .before .is-tag-once .ensures in
+    let v = o .before .before .before in
     let u = v .before .before in
     let l = u .before .before in
     let i = l .before .loop .inv in
-    (i .0, (i .1 .0, (omega arith, rw (a .tag-at .ensures) (passed-live _ _ _ _ _ _ (i .1 .1 .1) (sym (u .before .is-used .ensures) ∙ not-false _ (u .if1 .left)) (sym (v .before .is-live-fine .ensures) ∙ not-false _ (v .if3 .left)) (rw (a .tag-at .ensures) at (sym (o .before .is-tag-once .ensures) ∙ not-false _ (o .if4 .left))) (rw (i .1 .0) at (c .one-of .ensures .0)) (c .one-of .ensures .1)))))
+    (i .0, (i .1 .0, (omega arith, rw (a .1) (passed-live _ _ _ _ _ _ (i .1 .1 .1) (below-several l) (sym (u .before .is-used .ensures) ∙ not-false _ (u .if1 .left)) (sym (v .before .is-live-fine .ensures) ∙ not-false _ (v .if3 .left)) (sym (a .0) ∙ not-false _ (o .if4 .left)) (rw (i .1 .0) at (c .one-of .ensures .0)) (c .one-of .ensures .1)))))
 
 returns-4 : tie.Need-returns-4 Inv-loop μ-loop
 returns-4 c =
@@ -164,12 +150,8 @@ walk-entries-spec =
     loop-again
     is-live-fine-requires
     returns-2
-    tag-at-requires
-    cast-low
-    array-read-is-tag-once
     is-tag-once-requires
     returns-3
-    array-write-seen
     cast-noted
     field-of-requires
     cast-noted-2

@@ -1,4 +1,5 @@
 use Rattle.words.proofs.Tests.{same-tests}
+use Rattle.picture.specs.Records.{all-zero}
 use borrow.Author.Needs.{needs}
 use Rattle.sound_job_records.proofs.is_job_zero.Statement.{statement}
 use Rattle.sound_job_records.proofs.is_job_zero.Tie as tie
@@ -31,6 +32,7 @@ field-of-requires-8 : tie.Need-field-of-requires-8
 field-of-requires-8 c κs = search needs
 
 returns : tie.Need-returns
+unfolding all-zero
 returns c = search same-tests depth 24 fits 4000
 
 pub is-job-zero-spec : {M : Type 1} → statement M

@@ -1,4 +1,5 @@
 use Rattle.words.proofs.Tests.{same-tests}
+use Rattle.picture.specs.Records.{all-zero}
 use borrow.Author.Needs.{needs}
 use Rattle.sound_records.proofs.is_channel_zero.Statement.{statement}
 use Rattle.sound_records.proofs.is_channel_zero.Tie as tie
@@ -19,6 +20,7 @@ field-of-requires-4 : tie.Need-field-of-requires-4
 field-of-requires-4 c κs = search needs
 
 returns : tie.Need-returns
+unfolding all-zero
 returns c = search same-tests depth 24 fits 4000
 
 pub is-channel-zero-spec : {M : Type 1} → statement M

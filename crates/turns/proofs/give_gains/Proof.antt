@@ -15,7 +15,7 @@ use Rattle.turns.proofs.give_gains.Tie as tie
 use Rattle.turns.proofs.give_gains.Reads as reads
 use Rattle.turns.proofs.give_gains.Lts as lts
 use Rattle.turns.proofs.accumulated_after.Reads as accumulated-after-reads
-use Rattle.turns.proofs.set_field.Reads as set-field-reads
+use Rattle.picture_tables.proofs.put_field.Reads as put-field-reads
 
 abbrev Inv-loop : tie.InvT-loop
 Inv-loop p₀ m k₀ p k = (k ≤ positions Jobs) × (length p ≡ length p₀) × (p ≡ set-each p₀ accumulated-field (accumulated-after p₀ m) k)
@@ -29,8 +29,8 @@ loop-holds c = (omega arith, refl, set-each-none (c .before .args .p .now) accum
 accumulated-after-requires : tie.Need-accumulated-after-requires Inv-loop μ-loop
 accumulated-after-requires c κs = search needs
 
-set-field-requires : tie.Need-set-field-requires Inv-loop μ-loop
-set-field-requires c κs = search needs
+put-field-requires : tie.Need-put-field-requires Inv-loop μ-loop
+put-field-requires c κs = search needs
 
 add-k : tie.Need-add-k Inv-loop μ-loop
 add-k c = search needs
@@ -45,7 +45,7 @@ loop-again c =
     let t = v .before .before in
     let d = t .before .loop in
     let a = t .before .before .before .args in
-    (omega arith, rw (s .set-field .ensures) (simp length-set (d .inv .1)), s .set-field .ensures ∙ set-each-next (a .p .now) accumulated-field (accumulated-after (a .p .now) (a .m)) (d .p) (d .k) (v .accumulated-after .result) (d .inv .2) (v .accumulated-after .ensures ∙ gain-ahead (a .p .now) (d .p) (a .m) (d .k) (d .inv .2)))
+    (omega arith, rw (s .put-field .ensures) (simp length-set (d .inv .1)), s .put-field .ensures ∙ set-each-next (a .p .now) accumulated-field (accumulated-after (a .p .now) (a .m)) (d .p) (d .k) (v .accumulated-after .result) (d .inv .2) (v .accumulated-after .ensures ∙ gain-ahead (a .p .now) (d .p) (a .m) (d .k) (d .inv .2)))
 
 same-length : tie.Need-same-length Inv-loop μ-loop
 same-length c = search needs
@@ -64,7 +64,7 @@ give-gains-spec =
     μ-loop
     loop-holds
     accumulated-after-requires
-    set-field-requires
+    put-field-requires
     add-k
     loop-less
     loop-again

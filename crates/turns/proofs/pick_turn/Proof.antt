@@ -11,7 +11,7 @@ use Rattle.turns.proofs.pick_turn.Lts as lts
 use Rattle.picture.proofs.field_of.Reads as field-of-reads
 use Rattle.turns.proofs.chosen_job.Reads as chosen-job-reads
 use Rattle.turns.proofs.give_gains.Reads as give-gains-reads
-use Rattle.turns.proofs.set_field.Reads as set-field-reads
+use Rattle.picture_tables.proofs.put_field.Reads as put-field-reads
 use Rattle.words.proofs.signed_of.Reads as signed-of-reads
 use Rattle.words.proofs.put.Reads as put-reads
 
@@ -42,8 +42,8 @@ signed-of-requires c κs = search needs
 give-gains-requires : tie.Need-give-gains-requires
 give-gains-requires c κs = search needs
 
-set-field-requires : tie.Need-set-field-requires
-set-field-requires c κs = search needs
+put-field-requires : tie.Need-put-field-requires
+put-field-requires c κs = search needs
 
 put-requires-2 : tie.Need-put-requires-2
 put-requires-2 c κs = search needs
@@ -61,7 +61,7 @@ returns-2 c = let last = c .before .before in
     let chosen = number .before .before .before in
     let k = key .signed-of in
     let d = job-picked (chosen .before .before .before .args .p .now) (chosen .chosen-job .result) (chosen .chosen-job .ensures .0) (number .before .before .if1 .left) in
-    (rw (last .put2 .ensures, cleared .set-field .ensures, gave .give-gains .ensures, number .field-of .ensures) (d .0), rw (number .field-of .ensures, toZ-ofZ w32 (k .result) (record { sfits = k .ok }) ∙ k .ensures, key .before .field-of2 .ensures) (d .1))
+    (rw (last .put2 .ensures, cleared .put-field .ensures, gave .give-gains .ensures, number .field-of .ensures) (d .0), rw (number .field-of .ensures, toZ-ofZ w32 (k .result) (record { sfits = k .ok }) ∙ k .ensures, key .before .field-of2 .ensures) (d .1))
 
 pub pick-turn-spec : {M : Type 1} → statement M
 pick-turn-spec =
@@ -75,7 +75,7 @@ pick-turn-spec =
     field-of-requires-2
     signed-of-requires
     give-gains-requires
-    set-field-requires
+    put-field-requires
     put-requires-2
     same-length-2
     returns-2)

@@ -20,7 +20,7 @@ use Rattle.turns.proofs.tick_frame.Reads as reads
 use Rattle.turns.proofs.tick_frame.Lts as lts
 use Rattle.picture_tables.proofs.timeout_of.Reads as timeout-of-reads
 use Rattle.turns.proofs.fallen.Reads as fallen-reads
-use Rattle.turns.proofs.set_field.Reads as set-field-reads
+use Rattle.picture_tables.proofs.put_field.Reads as put-field-reads
 use Rattle.words.proofs.bits_of.Reads as bits-of-reads
 
 -- what position i of p gets
@@ -45,8 +45,8 @@ fallen-requires c κs = search needs
 bits-of-requires : tie.Need-bits-of-requires Inv-loop μ-loop
 bits-of-requires c κs = search needs
 
-set-field-requires : tie.Need-set-field-requires Inv-loop μ-loop
-set-field-requires c κs = search needs
+put-field-requires : tie.Need-put-field-requires Inv-loop μ-loop
+put-field-requires c κs = search needs
 
 add-k : tie.Need-add-k Inv-loop μ-loop
 add-k c = search needs
@@ -68,7 +68,7 @@ loop-again c =
     ∙ timeout-same p (set-each p timeout-field (after p) (d .k)) (d .k) (later-record-stays p timeout-field (after p) (omega arith) (d .k) (d .k) timeout-field (omega arith) (omega arith)) in
     let read = toZ-ofZ w32 (v .timeout-of .result) (record { sfits = v .timeout-of .ok }) ∙ v .timeout-of .ensures ∙ same in
     let less = toZ-ofZ w32 (f .result) (record { sfits = f .ok }) ∙ f .ensures ∙ ap fallen read in
-    (omega arith, rw (s .set-field .ensures) (simp length-set (d .inv .1)), s .set-field .ensures ∙ set-each-next p timeout-field (after p) (d .p) (d .k) (b .result) (d .inv .2) (b .ensures ∙ ap bits less))
+    (omega arith, rw (s .put-field .ensures) (simp length-set (d .inv .1)), s .put-field .ensures ∙ set-each-next p timeout-field (after p) (d .p) (d .k) (b .result) (d .inv .2) (b .ensures ∙ ap bits less))
 
 same-length : tie.Need-same-length Inv-loop μ-loop
 same-length c = search needs
@@ -90,7 +90,7 @@ tick-frame-spec =
     timeout-of-requires
     fallen-requires
     bits-of-requires
-    set-field-requires
+    put-field-requires
     add-k
     loop-less
     loop-again

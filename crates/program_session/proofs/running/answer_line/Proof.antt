@@ -3,8 +3,8 @@ use mathlib.Core.Path.{_≡_, sym}
 use native.Mathlib.Omega.{arith}
 use lib.Seq.{length-take-le}
 use Rattle.program_lines.specs.Frames.{frame, reports}
-use Rattle.program_session.specs.Reply.{reply, Replied}
-use Rattle.program_session.proofs.Replies.{comes-longwords, comes-report}
+use Rattle.program_replies.specs.Reply.{reply, Replied}
+use Rattle.program_replies.proofs.Replies.{comes-longwords, comes-report}
 use Rattle.program_session.proofs.Answers.{reply-answers, report-answers}
 use borrow.Author.Needs.{needs}
 use Rattle.program_session.proofs.running.answer_line.Statement.{statement}
@@ -12,25 +12,25 @@ use Rattle.program_session.proofs.running.answer_line.Tie as tie
 use Rattle.program_session.proofs.running.answer_line.Reads as reads
 use Rattle.program_session.proofs.running.answer_line.Lts as lts
 use Rattle.program_reports.proofs.write_report.Reads as write-report-reads
-use Rattle.program_session.proofs.answering.answer.Reads as answer-reads
+use Rattle.program_replies.proofs.answer_frame.Reads as answer-frame-reads
 use Rattle.program_session.proofs.room.registers_room.Reads as registers-room-reads
 use Rattle.program_writing.proofs.write_answer.Reads as write-answer-reads
 
 -- what a line of one answer comes to, and what one that asks for a report does
-replied : (c : tie.After-count) → Replied (reply (frame (c .before .before .before .before .before .before .before .before .before .before .before .before .args .line .now)) (c .before .before .before .before .before .before .before .before .before .before .before .before .args .p .now)) (c .count .given .0 .0) (c .before .before .before .before .before .answer .last .0) (c .before .before .before .before .before .before .before .before .registers-room .result) (c .before .before .before .before .before .answer .last .1 .1 .0)
-replied c = comes-longwords _ _ _ _ _ _ (c .before .before .before .before .before .answer .ensures) _ (c .count .given .1)
+replied : (c : tie.After-count) → Replied (reply (frame (c .before .before .before .before .before .before .before .before .before .before .before .before .args .line .now)) (c .before .before .before .before .before .before .before .before .before .before .before .before .args .p .now)) (c .count .given .0 .0) (c .before .before .before .before .before .answer-frame .last .0) (c .before .before .before .before .before .before .before .before .registers-room .result) (c .before .before .before .before .before .answer-frame .last .1 .1 .0)
+replied c = comes-longwords _ _ _ _ _ _ (c .before .before .before .before .before .answer-frame .ensures) _ (c .count .given .1)
 
-asked : (c : tie.After-top) → (frame (c .before .before .before .before .before .before .before .before .before .before .before .before .args .line .now) ≡ reports (c .top .given .0 .0)) × (c .before .before .before .before .before .answer .last .0 ≡ c .before .before .before .before .before .before .before .before .before .before .before .before .args .p .now)
-asked c = comes-report _ _ _ (c .before .before .before .before .before .before .before .before .registers-room .result) (c .before .before .before .before .before .answer .last .1 .1 .0) _ (c .before .before .before .before .before .answer .ensures) _ (c .top .given .1)
+asked : (c : tie.After-top) → (frame (c .before .before .before .before .before .before .before .before .before .before .before .before .args .line .now) ≡ reports (c .top .given .0 .0)) × (c .before .before .before .before .before .answer-frame .last .0 ≡ c .before .before .before .before .before .before .before .before .before .before .before .before .args .p .now)
+asked c = comes-report _ _ _ (c .before .before .before .before .before .before .before .before .registers-room .result) (c .before .before .before .before .before .answer-frame .last .1 .1 .0) _ (c .before .before .before .before .before .answer-frame .ensures) _ (c .top .given .1)
 
 registers-room-requires : tie.Need-registers-room-requires
 registers-room-requires c κs = search needs
 
-slice-aggregate-answer : tie.Need-slice-aggregate-answer
-slice-aggregate-answer c = search needs
+slice-aggregate-answer-frame : tie.Need-slice-aggregate-answer-frame
+slice-aggregate-answer-frame c = search needs
 
-answer-requires : tie.Need-answer-requires
-answer-requires c κs = search needs
+answer-frame-requires : tie.Need-answer-frame-requires
+answer-frame-requires c κs = search needs
 
 enum-known-count : tie.Need-enum-known-count
 enum-known-count c = search needs
@@ -63,7 +63,7 @@ returns c =
     let r = t .before .before .before .before .before in
     let s = r .before .before .before .before .before .before .before in
     let h = replied t in
-    rw (w .ensures .1, w .ensures .0) (reply-answers (s .args .line .now) (s .args .p .now) (r .answer .last .0) _ _ (s .args .out .now) (t .count .given .0 .0) (s .args .used) h (omega (arith, h .counts, r .before .before .before .registers-room .ensures, r .answer .kept .1 .1 .0)) (s .pre))
+    rw (w .ensures .1, w .ensures .0) (reply-answers (s .args .line .now) (s .args .p .now) (r .answer-frame .last .0) _ _ (s .args .out .now) (t .count .given .0 .0) (s .args .used) h (omega (arith, h .counts, r .before .before .before .registers-room .ensures, r .answer-frame .kept .1 .1 .0)) (s .pre))
 
 same-length-3 : tie.Need-same-length-3
 same-length-3 c = search needs
@@ -82,8 +82,8 @@ answer-line-spec =
     tie.close
     (tie.spec
     registers-room-requires
-    slice-aggregate-answer
-    answer-requires
+    slice-aggregate-answer-frame
+    answer-frame-requires
     enum-known-count
     array-share-prefix-registers
     slice-aggregate-write-answer

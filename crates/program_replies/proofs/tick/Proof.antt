@@ -1,14 +1,14 @@
--- `program_session::answering::tick` meets its contract: the key is put at the start of the room. Assumes nothing.
+-- `program_replies::tick` meets its contract: the key is put at the start of the room. Assumes nothing.
 use native.Mathlib.Omega.{arith}
 use mir.Syntax.{w32}
 use mir.ValLaws.{toZ-ofZ}
 use mathlib.Core.List.{[], _∷_}
 use Rattle.words.specs.Signed.{bits}
 use Rattle.manager.specs.Turn.{tick-key, ticking}
-use Rattle.program_session.proofs.Replies.{put-there}
+use Rattle.program_replies.proofs.Replies.{put-there}
 use borrow.Author.Needs.{needs}
-use Rattle.program_session.proofs.answering.tick.Statement.{statement}
-use Rattle.program_session.proofs.answering.tick.Tie as tie
+use Rattle.program_replies.proofs.tick.Statement.{statement}
+use Rattle.program_replies.proofs.tick.Tie as tie
 
 tick-requires : tie.Need-tick-requires
 tick-requires c κs = search needs

@@ -1,12 +1,12 @@
--- `program_session::answering::refuse` meets its contract: its key is put at the start of the room. Assumes nothing.
+-- `program_replies::refuse` meets its contract: its key is put at the start of the room. Assumes nothing.
 use native.Mathlib.Omega.{arith}
 use mathlib.Core.List.{[], _∷_}
 use Rattle.words.specs.Signed.{bits}
 use Rattle.picture.specs.Keys.{bad-parameter}
-use Rattle.program_session.proofs.Replies.{put-there}
+use Rattle.program_replies.proofs.Replies.{put-there}
 use borrow.Author.Needs.{needs}
-use Rattle.program_session.proofs.answering.refuse.Statement.{statement}
-use Rattle.program_session.proofs.answering.refuse.Tie as tie
+use Rattle.program_replies.proofs.refuse.Statement.{statement}
+use Rattle.program_replies.proofs.refuse.Tie as tie
 
 bits-of-requires : tie.Need-bits-of-requires
 bits-of-requires c κs = search needs

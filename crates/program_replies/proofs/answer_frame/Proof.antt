@@ -1,4 +1,4 @@
--- `program_session::answering::answer` meets its contract: a line's kind says its frame, and its registers and name are those read. Assumes nothing.
+-- `program_replies::answer_frame` meets its contract: a line's kind says its frame, and its registers and name are those read. Assumes nothing.
 use mathlib.Core.Path.{refl, sym, _∙_}
 use native.Mathlib.Omega.{arith}
 use Prim.Native.Nat.{_≤_}
@@ -7,10 +7,10 @@ use lib.Seq.{length-take-le}
 use Rattle.program_lines.specs.declared.Line.the-variants.{Bad, Pick, Tick, Report}
 use Rattle.program_lines.specs.Frames.{bad, picks, ticks, frame}
 use Rattle.program_lines.proofs.Meaning.{Trapped, kind-says, trap-read}
-use Rattle.program_session.proofs.Replies.{lone-replied, trap-replied}
+use Rattle.program_replies.proofs.Replies.{lone-replied, trap-replied}
 use borrow.Author.Needs.{needs}
-use Rattle.program_session.proofs.answering.answer.Statement.{statement}
-use Rattle.program_session.proofs.answering.answer.Tie as tie
+use Rattle.program_replies.proofs.answer_frame.Statement.{statement}
+use Rattle.program_replies.proofs.answer_frame.Tie as tie
 
 -- a line of a trap has eight registers and a name that lies in its room
 trapped : (c : tie.After-trap) → Trapped (frame (c .before .before .before .before .before .before .before .before .before .before .before .before .args .line .now)) (c .trap .given .0 .0) (c .trap .given .0 .1 .0)
@@ -122,8 +122,8 @@ returns-5 c =
     trap-replied (frame (s .args .line .now)) _ _ (s .args .p .now) (s .args .registers .now) _ (t .last .0) (t .last .1 .1 .0) (t .result) (trapped (c .before .before .before .before .before .before .before .before .before)) (s .pre) (c .before .before .before .before .before .before .before .before .before .before .before .before .before .before .before .before .before .name-room .ensures)
     (rw (r .ensures .registers, r .ensures .name) at (t .ensures)) (omega (arith, s .pre, r .kept .1 .0, t .kept .1 .1 .0))
 
-pub answer-spec : {M : Type 1} → statement M
-answer-spec =
+pub answer-frame-spec : {M : Type 1} → statement M
+answer-frame-spec =
     tie.close
     (tie.spec
     name-room-requires

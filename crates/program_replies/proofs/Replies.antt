@@ -9,11 +9,11 @@ use lib.Seq.{sets, length-sets, take-all}
 use Rattle.calls.specs.Outcome.{Meets}
 use Rattle.program_writing.proofs.Room.{first-of, rest-of, all-of}
 use Rattle.manager.specs.Door.{called}
-use Rattle.program_session.specs.declared.Answer.{Answer}
-use Rattle.program_session.specs.declared.Answer.the-variants.{Longwords, Report}
+use Rattle.program_replies.specs.declared.Answer.{Answer}
+use Rattle.program_replies.specs.declared.Answer.the-variants.{Longwords, Report}
 use Rattle.program_lines.specs.Frames.{Frame, reports, registers-of, name-of}
 use Rattle.program_lines.proofs.Meaning.{Trapped}
-use Rattle.program_session.specs.Reply.{one-line, reply, Replied, Comes}
+use Rattle.program_replies.specs.Reply.{one-line, reply, Replied, Comes}
 
 -- a reply put at the start of a room is given
 pub put-there : (ws q a : List ℕ) → length ws ≤ length a → Replied (one-line ws q) (length ws) q a (sets a 0 ws)

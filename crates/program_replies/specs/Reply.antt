@@ -8,8 +8,8 @@ use Rattle.picture.specs.Keys.{bad-parameter}
 use Rattle.program_lines.specs.Frames.{Frame, bad, picks, ticks, reports, traps}
 use Rattle.program_reports.specs.Reports.{reported}
 use Rattle.manager.specs.Door.{called}
-use Rattle.program_session.specs.declared.Answer.{Answer}
-use Rattle.program_session.specs.declared.Answer.the-variants.{Longwords, Report}
+use Rattle.program_replies.specs.declared.Answer.{Answer}
+use Rattle.program_replies.specs.declared.Answer.the-variants.{Longwords, Report}
 use Rattle.manager.specs.Turn.{pick-answer, pick-picture, tick-key, ticking}
 
 -- the lines of an answer, each by its longwords

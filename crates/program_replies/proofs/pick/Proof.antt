@@ -1,14 +1,14 @@
--- `program_session::answering::pick` meets its contract: number and key are put at the start of the room. Assumes nothing.
+-- `program_replies::pick` meets its contract: number and key are put at the start of the room. Assumes nothing.
 use native.Mathlib.Omega.{arith}
 use mir.Syntax.{w32}
 use mir.ValLaws.{toZ-ofZ}
 use mathlib.Core.List.{[], _∷_}
 use Rattle.words.specs.Signed.{bits}
 use Rattle.manager.specs.Turn.{pick-answer, pick-picture}
-use Rattle.program_session.proofs.Replies.{put-there}
+use Rattle.program_replies.proofs.Replies.{put-there}
 use borrow.Author.Needs.{needs}
-use Rattle.program_session.proofs.answering.pick.Statement.{statement}
-use Rattle.program_session.proofs.answering.pick.Tie as tie
+use Rattle.program_replies.proofs.pick.Statement.{statement}
+use Rattle.program_replies.proofs.pick.Tie as tie
 
 pick-requires : tie.Need-pick-requires
 pick-requires c κs = search needs

@@ -1,10 +1,10 @@
 use borrow.Author.Needs.{needs}
-use Rattle.turns.proofs.set_field.Statement.{statement}
-use Rattle.turns.proofs.set_field.Tie as tie
-use Rattle.turns.proofs.set_field.Reads as reads
-use Rattle.turns.proofs.set_field.Lts as lts
+use Rattle.picture_tables.proofs.put_field.Statement.{statement}
+use Rattle.picture_tables.proofs.put_field.Tie as tie
+use Rattle.picture_tables.proofs.put_field.Reads as reads
+use Rattle.picture_tables.proofs.put_field.Lts as lts
 use Rattle.picture.proofs.slot_of.Reads as slot-of-reads
 use Rattle.picture_tables.proofs.put_at.Reads as put-at-reads
 
 slot-of-requires : tie.Need-slot-of-requires
 slot-of-requires c κs = search needs
@@ -21,5 +21,6 @@ same-length c = search needs
 returns : tie.Need-returns
 returns c = rw (c .before .before .put-at .ensures, c .before .before .before .slot-of .ensures .0)
 
-pub set-field-spec : {M : Type 1} → statement M
-set-field-spec = tie.close (tie.spec slot-of-requires add-put-at put-at-requires same-length returns)
+pub put-field-spec : {M : Type 1} → statement M
+put-field-spec =
+    tie.close (tie.spec slot-of-requires add-put-at put-at-requires same-length returns)

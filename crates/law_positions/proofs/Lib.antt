@@ -1,0 +1,3 @@
+-- Where a new entry stands, proved.
+pub mod Walked
+pub mod Positions

@@ -1,0 +1,2 @@
+-- The statements about positions.
+pub mod Positions

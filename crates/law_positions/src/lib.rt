@@ -1,0 +1,1 @@
+// Where a new job and a new channel stand: laws only.
