@@ -9,20 +9,14 @@ use Rattle.picture.specs.Layout.{positions, heap-base}
 use Rattle.picture.specs.Records.{all-zero, members, used}
 use Rattle.picture.specs.Numbers.{free-position}
 use Rattle.picture.specs.declared.Table.{Table}
-use Rattle.picture.specs.declared.Table.the-variants.{Jobs, Channels}
 use Rattle.picture.proofs.Records.{used-is, all-zero-by, all-zero-same}
 use Rattle.sound.specs.Sound.{sound}
-use Rattle.sound_facts.proofs.Sound.{Entries, Jobs-fine, Channels-fine, Sound}
+use Rattle.sound_facts.proofs.Sound.{Entries, entries-of}
 use Rattle.sound_facts.proofs.View.{view}
 
 pub free-position-is-free : (p : List ℕ) (t : Table) → free-position p t < positions t → used p t (free-position p t) ≡ false
 unfolding free-position
 free-position-is-free p t l = used-is p t _ l ∙ lowest-clear-is (positions t) (members p t) .free l
-
--- the records of either table
-pub entries-of : (p : List ℕ) → Sound p → (t : Table) → Entries p t
-entries-of p S Jobs = S .jobs .entries
-entries-of p S Channels = S .channels .entries
 
 -- it is, and it stays so while the longwords before the heap stay
 pub free-record-is-zero : (p : List ℕ) → sound p ≡ true → (t : Table) → free-position p t < positions t → all-zero p t (free-position p t) ≡ true

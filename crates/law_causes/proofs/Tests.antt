@@ -33,7 +33,7 @@ use Rattle.masks.proofs.Lowest.{lowest-clear-is}
 use Rattle.blocks.specs.Header.{kind, free, plain-kind, queue-length, queue-count}
 use Rattle.blocks.specs.Walk.{blocks}
 use Rattle.sound.specs.Sound.{sound}
-use Rattle.sound_facts.proofs.Sound.{Sound, Entries}
+use Rattle.sound_facts.proofs.Sound.{Sound, Entries, entries-of}
 use Rattle.sound_facts.proofs.View.{view}
 use Rattle.calls.specs.Call.{Check}
 use Rattle.calls.specs.Found.{job-check, channel-check}
@@ -78,14 +78,10 @@ module _ (p d s : List ℕ) where
     S : Sound p
     S = view p h
 
-    entries : (t : Table) → Entries p t
-    entries Jobs = S .jobs .entries
-    entries Channels = S .channels .entries
-
     -- a number is live exactly where it names an entry
     pub names-live : (t : Table) (n : ℕ) → Names p t n → live p t n ≡ true
     names-live t n N =
-        let e : position n ≡ N .at = sym (ap position (N .holds)) ∙ entries t .place (N .at) (N .in-use) in
+        let e : position n ≡ N .at = sym (ap position (N .holds)) ∙ entries-of p S t .place (N .at) (N .in-use) in
         is-live p t n (record { used = ap (used p t) e ∙ N .in-use; names = ap (number p t) e ∙ N .holds })
 
     pub live-names : (t : Table) (n : ℕ) → live p t n ≡ true → Names p t n

@@ -1,6 +1,7 @@
 -- The longwords of a picture in which a block was placed at r.
 use Prim.Native.Nat.{ℕ, _+_, _-_, _/_, _%_, _≤_, _<_}
 use mathlib.Core.Path.{_≡_, refl, _∙_}
+use mathlib.Core.Bool.{Bool, true, false, cond}
 use mathlib.Core.List.{List}
 use mathlib.Core.Logic.{⊎-elim, inl, inr}
 use lib.ListN.{length}
@@ -39,6 +40,31 @@ pub record Written (p q : List ℕ) (r n k o s : ℕ) : Type 0 where
   pub rest-start : n < size p r → start q (r + n / 4) ≡ 0
   pub rest-room : n < size p r → (j : ℕ) → r + n / 4 + 4 ≤ j → word q j ≡ word p j
 
+-- wherever it was placed, the picture is as long as it was, and what stands before it stays
+module _ (p : List ℕ) (r n k o s : ℕ) where
+  length-split : length (split p r n) ≡ length p
+  unfolding split
+  length-split = length-either (ltb n (size p r)) _ _ _ (length-header _ _ _ _ _ _) refl
+
+  pub length-placed : length (placed p r n k o s) ≡ length p
+  unfolding placed
+  length-placed = length-clear (n / 4 - 4) _ (r + 4) ∙ length-header _ _ _ _ _ _ ∙ length-split
+
+  split-before : (j : ℕ) → j < r → word (split p r n) j ≡ word p j
+  unfolding split
+  split-before j l = go (ltb n (size p r))
+    where
+      go : (b : Bool) → word (cond b (header p (r + n / 4) (size p r - n) 0 0 0) p) j ≡ word p j
+      go true = header-other p (r + n / 4) (size p r - n) 0 0 0 j (inl (omega arith))
+      go false = refl
+
+  pub placed-before : (j : ℕ) → j < r → word (placed p r n k o s) j ≡ word p j
+  unfolding placed
+  placed-before j l =
+      clear-other (n / 4 - 4) (header (split p r n) r n k o s) (r + 4) j (inl (omega arith))
+      ∙ header-other (split p r n) r n k o s j (inl l)
+      ∙ split-before j l
+
 module _ (p : List ℕ) (r n k o s : ℕ) (R : Room p r n) where
   -- where the block and its rest end
   ends : r + 4 ≤ r + n / 4
@@ -57,14 +83,6 @@ module _ (p : List ℕ) (r n k o s : ℕ) (R : Room p r n) where
       (λ (l : size p r ≤ n). rw (le-ltb n (size p r) l))
       (lt-or-ge n (size p r))
 
-  length-split : length (split p r n) ≡ length p
-  unfolding split
-  length-split = length-either (ltb n (size p r)) _ _ _ (length-header _ _ _ _ _ _) refl
-
-  length-placed : length (placed p r n k o s) ≡ length p
-  unfolding placed
-  length-placed = length-clear (n / 4 - 4) _ (r + 4) ∙ length-header _ _ _ _ _ _ ∙ length-split
-
   placed-other : (j : ℕ) → Outside r (r + size p r / 4) j → word (placed p r n k o s) j ≡ word p j
   unfolding placed
   placed-other j h =
@@ -76,7 +94,7 @@ module _ (p : List ℕ) (r n k o s : ℕ) (R : Room p r n) where
 
   -- the header
   inside-split : r + 4 ≤ length (split p r n)
-  inside-split = let a = ends in let b = fits-in in rw length-split (omega (arith, R .inside))
+  inside-split = let a = ends in let b = fits-in in rw (length-split p r n k o s) (omega (arith, R .inside))
 
   under : (j : ℕ) → j < r + 4 → word (placed p r n k o s) j ≡ word (header (split p r n) r n k o s) j
   unfolding placed
@@ -100,7 +118,7 @@ module _ (p : List ℕ) (r n k o s : ℕ) (R : Room p r n) where
   placed-room j a b =
       let x = ends in
       let y = fits-in in
-      clear-zeros (n / 4 - 4) (header (split p r n) r n k o s) (r + 4) j (rw (length-header (split p r n) r n k o s, length-split) (omega (arith, R .inside))) a (omega arith)
+      clear-zeros (n / 4 - 4) (header (split p r n) r n k o s) (r + 4) j (rw (length-header (split p r n) r n k o s, length-split p r n k o s) (omega (arith, R .inside))) a (omega arith)
 
   -- the rest
   over : n < size p r → (j : ℕ) → r + n / 4 ≤ j → word (placed p r n k o s) j ≡ word (header p (r + n / 4) (size p r - n) 0 0 0) j
@@ -131,7 +149,7 @@ module _ (p : List ℕ) (r n k o s : ℕ) (R : Room p r n) where
 
   pub placed-is-written : Written p (placed p r n k o s) r n k o s
   placed-is-written = record {
-    as-long = length-placed;
+    as-long = length-placed p r n k o s;
     other = placed-other;
     its-size = placed-size;
     its-kind = placed-kind;

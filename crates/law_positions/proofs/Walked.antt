@@ -16,8 +16,7 @@ use Rattle.picture.specs.declared.Table.{Table}
 use Rattle.picture.specs.declared.Table.the-variants.{Jobs, Channels}
 use Rattle.picture.proofs.Records.{shared, all-zero-by, all-zero-not, used-is, used-below}
 use Rattle.sound_matching.specs.Match.{has-block}
-use Rattle.sound_facts.proofs.Sound.{Entries, Jobs-fine, Channels-fine, Sound}
-use Rattle.entering.proofs.Vacant.{entries-of}
+use Rattle.sound_facts.proofs.Sound.{Entries, Jobs-fine, Sound, entries-of}
 use Rattle.law_positions.specs.Positions.{walk, walked-to}
 
 -- where a walk ends: behind records that aren't all zero, at one that is or behind the last

@@ -16,7 +16,7 @@ use Rattle.picture.specs.declared.Table.{Table}
 use Rattle.picture.specs.declared.Table.the-variants.{Jobs, Channels}
 use Rattle.picture.proofs.Numbers.{live-is}
 use Rattle.sound.specs.Sound.{sound}
-use Rattle.sound_facts.proofs.Sound.{Entries}
+use Rattle.sound_facts.proofs.Sound.{Entries, entries-of}
 use Rattle.sound_facts.proofs.View.{view}
 use Rattle.sound_facts.proofs.Ages.{Ages, ages-still, ages-then, stays-dead}
 use Rattle.fresh.specs.Fresh.{fresh}
@@ -109,12 +109,7 @@ run-then (e ∷ first) then p = run-then first then (after e p)
 pub given : (p : List ℕ) → sound p ≡ true → (t : Table) (n : ℕ) → live p t n ≡ true → tag n ≤ word p (last-word t)
 given p s t n l =
     let L = live-is p t n l in
-    let E = entries t in
-    subst (λ (x : ℕ). tag x ≤ word p (last-word t)) (L .names) (E .given (position n) (L .used))
-  where
-    entries : (t : Table) → Entries p t
-    entries Jobs = view p s .jobs .entries
-    entries Channels = view p s .channels .entries
+    subst (λ (x : ℕ). tag x ≤ word p (last-word t)) (L .names) (entries-of p (view p s) t .given (position n) (L .used))
 
 pub dead-stays-dead : DeadStaysDead
 dead-stays-dead p s t number then later l d =

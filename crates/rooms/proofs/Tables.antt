@@ -1,47 +1,20 @@
 -- Placing a block leaves what stands before the areas.
-use Prim.Native.Nat.{ℕ, _+_, _-_, _/_, _≤_, _<_}
-use mathlib.Core.Path.{_≡_, refl, ap, _∙_}
-use mathlib.Core.Bool.{Bool, true, false, cond}
-use mathlib.Core.Logic.{inl}
+use Prim.Native.Nat.{ℕ, _+_, _≤_, _<_}
+use mathlib.Core.Path.{_≡_, ap, _∙_}
 use mathlib.Core.List.{List}
-use lib.Dec.{ltb}
 use lib.ListN.{length, length-set}
 use lib.Seq.{getD-set-other}
 use native.Mathlib.Omega.{arith}
 use Rattle.words.specs.Words.{word, put}
-use Rattle.words.proofs.Words.{length-clear}
 use Rattle.picture.specs.Layout.{heap-base, from, upto}
 use Rattle.picture.specs.declared.Area.{Area}
-use Rattle.blocks.specs.Header.{header-width, size}
 use Rattle.blocks.proofs.Starts.{starts-in}
-use Rattle.headers.specs.Header.{header}
-use Rattle.headers.proofs.Header.{length-header, length-either, header-other}
-use Rattle.law_areas.proofs.Clear.{clear-other}
-use Rattle.placing.specs.Place.{split, placed, answer, after}
+use Rattle.placing.specs.Place.{answer, after}
 use Rattle.placing.specs.declared.Placement.the-variants.{At}
 use Rattle.placing.proofs.Chosen.{Chosen}
 use Rattle.placing.proofs.Answer.{placed-at-a-chosen-block, after-at}
+use Rattle.law_placing.proofs.Written.{length-placed, placed-before}
 use Rattle.rooms.proofs.Sizes.{Lies}
-
-placed-long : (p : List ℕ) (i n k o s : ℕ) → length (placed p i n k o s) ≡ length p
-unfolding placed split
-placed-long p i n k o s = length-clear (n / 4 - header-width) _ (i + header-width) ∙ length-header _ _ _ _ _ _ ∙ length-either (ltb n (size p i)) _ _ _ (length-header _ _ _ _ _ _) refl
-
-module _ (p : List ℕ) (i n k o s j : ℕ) (l : j < i) where
-  split-before : word (split p i n) j ≡ word p j
-  unfolding split
-  split-before = go (ltb n (size p i))
-    where
-      go : (b : Bool) → word (cond b (header p (i + n / 4) (size p i - n) 0 0 0) p) j ≡ word p j
-      go true = header-other p (i + n / 4) (size p i - n) 0 0 0 j (inl (omega arith))
-      go false = refl
-
-  placed-before : word (placed p i n k o s) j ≡ word p j
-  unfolding placed
-  placed-before =
-      clear-other (n / 4 - header-width) (header (split p i n) i n k o s) (i + header-width) j (inl (omega arith))
-      ∙ header-other (split p i n) i n k o s j (inl l)
-      ∙ split-before
 
 -- from the picture p to q, as long, a block was placed at i, behind the tables, which are what they were
 pub record Behind (p q : List ℕ) (i : ℕ) : Type 0 where
@@ -55,7 +28,7 @@ placing-leaves-the-tables p q a L n k o s i h e =
     let f = L .behind in
     let z = e ∙ after-at p (from p a) (upto p a) n i k o s h in
     record {
-      long = ap length z ∙ placed-long p i n k o s;
+      long = ap length z ∙ length-placed p i n k o s;
       behind = omega arith;
       tables = λ j l. ap (λ (r : List ℕ). word r j) z ∙ placed-before p i n k o s j (omega arith);
     }

@@ -136,3 +136,8 @@ pub record Sound (p : List ℕ) : Type 0 where
   -- block-matched, entry-matched
   pub matched : (t : Table) → Matched p t
   pub current : Current p
+
+-- the records of either table
+pub entries-of : (p : List ℕ) → Sound p → (t : Table) → Entries p t
+entries-of p S Jobs = S .jobs .entries
+entries-of p S Channels = S .channels .entries

@@ -36,7 +36,7 @@ use Rattle.sound_whole.specs.Whole.{size-stated, seven-zero, heap-stated, last-
 use Rattle.sound.specs.Rule.{Rule}
 use Rattle.sound.specs.Sound.{sound}
 use Rattle.sound.proofs.Holds.{Holds, sound-holds, sound-by}
-use Rattle.sound_facts.proofs.Sound.{Sizes, Queue, Waits, Owned, Entries, Jobs-fine, Channels-fine, Fits, Tiled, Sound}
+use Rattle.sound_facts.proofs.Sound.{Sizes, Queue, Waits, Owned, Entries, Jobs-fine, Channels-fine, Fits, Tiled, Sound, entries-of}
 
 -- an entry with a block is in use
 pub has-block-used : (p : List ℕ) (t : Table) (k : ℕ) → has-block p t k ≡ true → used p t k ≡ true
@@ -353,10 +353,6 @@ module _ (p : List ℕ) where
 
 -- the facts give every rule by its name
 module _ (p : List ℕ) (S : Sound p) where
-  entries-in : (t : Table) → Entries p t
-  entries-in Jobs = S .jobs .entries
-  entries-in Channels = S .channels .entries
-
   is-size : size-stated p ≡ true
   unfolding size-stated
   is-size = let z = S .sizes in rw (eq-eqb _ _ (z .long), le-leb _ _ (z .least), le-leb _ _ (z .most), eq-eqb _ _ (z .fours))
@@ -389,11 +385,11 @@ module _ (p : List ℕ) (S : Sound p) where
   by-name Rule.accumulated-within = is-gained p (S .jobs)
   by-name Rule.timeout-within = is-frames p (S .jobs)
   by-name Rule.ends-in-one = is-one p (S .channels)
-  by-name (Rule.blank t) = is-blank p t (entries-in t)
-  by-name (Rule.positioned t) = is-positioned p t (entries-in t)
+  by-name (Rule.blank t) = is-blank p t (entries-of p S t)
+  by-name (Rule.positioned t) = is-positioned p t (entries-of p S t)
   by-name Rule.zero-exists = is-zero-exists p (S .jobs)
-  by-name (Rule.tag-within t) = is-tagged p t (entries-in t)
-  by-name (Rule.tag-once t) = is-once p t (entries-in t)
+  by-name (Rule.tag-within t) = is-tagged p t (entries-of p S t)
+  by-name (Rule.tag-once t) = is-once p t (entries-of p S t)
   by-name Rule.length-whole = λ a. is-length p a (S .tiled a)
   by-name Rule.kind-known = λ a i m. known-by p a i (S .tiled a .fits i m)
   by-name Rule.start-zero = λ a. is-start p a (S .tiled a)
@@ -404,11 +400,11 @@ module _ (p : List ℕ) (S : Sound p) where
   by-name Rule.kind-fits = λ a i m. fits-is p a i (S .tiled a .fits i m)
   by-name (Rule.block-matched t) = λ a. blocks-by p t a (S .matched t) (S .tiled a)
   by-name (Rule.entry-matched t) = matched-entries p t (S .matched t)
-  by-name (Rule.owner-live t) = is-owned p t (entries-in t)
+  by-name (Rule.owner-live t) = is-owned p t (entries-of p S t)
   by-name Rule.holder-live = λ a. is-held p a (S .tiled a)
   by-name Rule.owner-older = is-older p (S .jobs)
   by-name Rule.zero-unowned = is-zero-unowned p (S .jobs)
-  by-name (Rule.tag-given t) = is-given p t (entries-in t)
+  by-name (Rule.tag-given t) = is-given p t (entries-of p S t)
   by-name (Rule.last-within t) = is-last t
   by-name Rule.current-ready = is-current
   by-name Rule.wait-allowed = is-waits p (S .jobs)
