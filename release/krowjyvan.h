@@ -3,9 +3,9 @@
  *
  *     cc hub.c -I release release/libkrowjyvan.a
  *
- * The manager keeps a hub's programs ("jobs"), their memory, the queues between them (whose ends are "channels") and whose
- * turn it is. It answers the calls of the Sinclair QL's operating system, Qdos, under the names of the QL Technical Guide
- * (MT.CJOB, IO.OPEN, ..). All that it knows stands in an array of 32-bit longwords, the picture, which belongs to you:
+ * The manager keeps a hub's programs ("jobs"), their memory, the queues between them ("channels") and whose turn it is. It
+ * answers the calls of the Sinclair QL's operating system, Qdos, under the names of the QL Technical Guide (MT.CJOB,
+ * IO.OPEN, ..). All that it knows stands in an array of 32-bit longwords, the picture, which belongs to you:
  *
  *     static uint32_t hub[2048], registers[KROWJYVAN_REGISTERS], job;
  *
@@ -45,7 +45,6 @@
  *   suspended   of a job: its timeout isn't 0. A job that waits for another is suspended without end
  *   ready       active and not suspended: a pick chooses among the ready jobs
  *   tree        of a job: the job, the jobs that it owns, those that they own, and so on
- *   end         of a queue: a channel. Its output is sent to; an input, of which it may have many, is fetched from
  *   sound       of a picture: it holds together. A fresh one does, and every function leaves a sound one sound
  */
 #ifndef KROWJYVAN_H
@@ -68,11 +67,10 @@ extern "C" {
 #define KROWJYVAN_OUT_OF_MEMORY (-3)     /* [ERR.OM] no free block is long enough */
 #define KROWJYVAN_OUT_OF_RANGE (-4)      /* [ERR.OR] a fresh picture's sizes are bad */
 #define KROWJYVAN_BUFFER_OVERFLOW (-5)   /* [ERR.BO] a table has fewer lines than the tree that is to be reported has jobs */
-#define KROWJYVAN_CHANNEL_NOT_OPEN (-6)  /* [ERR.NO] no such channel, or output to join; channel positions or tags are used up */
+#define KROWJYVAN_CHANNEL_NOT_OPEN (-6)  /* [ERR.NO] no such channel; channel positions or tags are used up */
 #define KROWJYVAN_NOT_FOUND (-7)         /* [ERR.NF] the name isn't PIPE; no such error text */
-#define KROWJYVAN_END_OF_FILE (-10)      /* [ERR.EF] the queue is empty, and its output is gone */
 #define KROWJYVAN_BAD_NAME (-12)         /* [ERR.BN] PIPE_ isn't followed by 1 to 5 digits worth 1 to 32,766 */
-#define KROWJYVAN_BAD_PARAMETER (-15)    /* [ERR.BP] any other bad parameter; the wrong end; no such call; registers not 8 */
+#define KROWJYVAN_BAD_PARAMETER (-15)    /* [ERR.BP] any other bad parameter; the name PIPE alone; no such call; registers not 8 */
 #define KROWJYVAN_NOT_SOUND (-16)        /* [ERR.FE] the picture isn't sound */
 
 /* The registers of a call, by their index. */
@@ -103,9 +101,8 @@ extern "C" {
  *                                                            D2 its owner or KROWJYVAN_NOBODY; D3 its priority, and if it is
  *                                                            suspended $FF000000 more; A0 its first byte, 0 for job 0; A1 0
  * MT.RJOB !   D1* a job, not job 0; D3 a key              -> all 0. Removes its tree, with all memory and channels that the
- *                                                            tree owns, and the queues that have no end left; who waits for
- *                                                            one of it gets the key at its next turn. Refused (-1) where one
- *                                                            of the tree is active
+ *                                                            tree owns; who waits for one of it gets the key at its next
+ *                                                            turn. Refused (-1) where one of the tree is active
  * MT.FRJOB !  the same, active or not: a job removes itself by this
  * MT.FREE                                                 -> D1 bytes of the longest room for a job; the others 0
  * MT.SUSJB !  D1* a job, D3 frames, 1 to 32,767 or -1     -> D1 the job, A0 the byte offset of its record. Its wait is over,
@@ -117,22 +114,16 @@ extern "C" {
  * MT.PRIOR !  D1* a job, D2 priority 0 to 127             -> D1 and A0 as above
  * MT.ALCHP    D1 bytes, at least 1; D2* the owner         -> D1 bytes that can be used, A0 the first; the others 0
  * MT.RECHP    A0 the first byte of a room of MT.ALCHP     -> all 0
- * IO.OPEN     D1* the owner; the name PIPE_n, capital or  -> D1 the owner, A0 the channel: the output of a new queue, which is
- *             small, n the bytes that the queue holds        empty
- * IO.OPEN     D1* the owner; the name PIPE; D3 an output  -> D1 the owner, A0 the channel: an input of that output's queue
- * IO.CLOSE    A0 the channel                              -> nothing. A queue goes with its last end, and its bytes with it
- * IO.PEND     A0 an input, D3 0                           -> nothing: done if a byte waits, else -1, or -10 if its output is gone
- * IO.FBYTE    A0 an input, D3 0                           -> D1 the oldest byte, which is taken out; if there is none -1, or -10
- *                                                            if its output is gone
- * IO.SBYTE    A0 an output, D1 the byte, D3 0             -> nothing; -1 if the queue is full
+ * IO.OPEN     D1* the owner; the name PIPE_n, capital or  -> D1 the owner, A0 the channel, whose queue is empty
+ *             small, n the bytes that the queue holds
+ * IO.CLOSE    A0 the channel                              -> nothing
+ * IO.PEND     A0 the channel, D3 0                        -> nothing: done if a byte waits, else -1
+ * IO.FBYTE    A0 the channel, D3 0                        -> D1 the oldest byte, which is taken out; -1 if there is none
+ * IO.SBYTE    A0 the channel, D1 the byte, D3 0           -> nothing; -1 if the queue is full
  *
  * Of a priority and a byte to send only the low 8 bits are read, of frames and of the D3 of MT.ACTIV and of trap 3 only the low
  * 16, signed; elsewhere all 32 bits count, in D0 too. No call waits for a byte: the job tries again at a later turn. A job may
  * use, close, give back or remove what another one owns: the manager keeps what belongs to whom, and forbids nothing.
- *
- * A queue belongs to its output's owner and, when the output is gone, to the owner of its input at the lowest position. It goes
- * with its last end and not before. Each byte is read at one of the inputs. When the output is gone they read what remains and
- * then get -10, and no more inputs can be opened.
  *
  * An address is a byte offset into the picture: the longword at index i starts at byte 4 * i. Memory is clear when it is given.
  */
@@ -198,18 +189,16 @@ extern "C" {
 #define KROWJYVAN_CHANNEL_WIDTH 4
 #define KROWJYVAN_HEAP_BASE 392        /* the heap; behind it, up to N, the jobs' own memory */
 
-/* The fields of a record. A channel's has the first three and then KROWJYVAN_ENDING, which end of its queue it is. */
+/* The fields of a record. A channel's has the first three and then one, KROWJYVAN_ENDING, that is always 1. */
 #define KROWJYVAN_NUMBER 0
 #define KROWJYVAN_OWNER 1
-#define KROWJYVAN_BASE 2        /* the byte offset of its block, a channel's of its queue's; 0 for job 0, which has none */
+#define KROWJYVAN_BASE 2        /* the byte offset of its block, 16 bytes before its first byte; 0 for job 0, which has none */
 #define KROWJYVAN_PRIORITY 3
 #define KROWJYVAN_ACCUMULATED 4 /* what it has gained for its next turn */
 #define KROWJYVAN_TIMEOUT 5     /* signed: frames left, 0 not suspended, -1 without end */
 #define KROWJYVAN_WAIT 6        /* the job that it waits for, or 0 */
 #define KROWJYVAN_KEY 7         /* signed: the key that its next turn delivers */
 #define KROWJYVAN_ENDING 3
-#define KROWJYVAN_OUTPUT 1
-#define KROWJYVAN_INPUT 2
 #define KROWJYVAN_GREATEST_PRIORITY 127
 #define KROWJYVAN_HOLD 8191 /* the most that is accumulated */
 #define KROWJYVAN_GREATEST_TIMEOUT 32767

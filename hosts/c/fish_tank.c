@@ -1,6 +1,6 @@
 /*
  * The fish tank and the pond, on the linked manager: desk four logs its tank, ends, and its memory goes to desk five. Whoever
- * still uses desk four's old channels gets an error, and not the neighbour's water.
+ * still uses desk four's old channel gets an error, and not the neighbour's water.
  */
 #include <stdio.h>
 #include <stdlib.h>
@@ -65,12 +65,10 @@ static uint32_t create(const char *what, uint32_t owner)
     return registers[KROWJYVAN_D1];
 }
 
-/* Opens a channel for a job: PIPE_8, the output of a queue of 8 bytes, or PIPE, an input of the queue of the output in D3. */
-static uint32_t open_end(const char *what, uint32_t job, const char *name, uint32_t output)
+/* Opens a queue of 8 bytes for a job. */
+static uint32_t open_queue(const char *what, uint32_t job)
 {
-    registers[KROWJYVAN_D3] = output;
-    expect(call(what, KROWJYVAN_TRAP_2, KROWJYVAN_IO_OPEN, job, 0, name), KROWJYVAN_DONE);
-    registers[KROWJYVAN_D3] = 0;
+    expect(call(what, KROWJYVAN_TRAP_2, KROWJYVAN_IO_OPEN, job, 0, "PIPE_8"), KROWJYVAN_DONE);
     printf("    It is channel $%08X: tag %u, position %u.\n", (unsigned)registers[KROWJYVAN_A0],
            (unsigned)(registers[KROWJYVAN_A0] / KROWJYVAN_TAG_WEIGHT), (unsigned)(registers[KROWJYVAN_A0] % KROWJYVAN_TAG_WEIGHT));
     return registers[KROWJYVAN_A0];
@@ -91,7 +89,7 @@ static void show_screen(void)
 
 int main(void)
 {
-    uint32_t four, five, tank, tank_page, pond, pond_page, turn;
+    uint32_t four, five, tank, pond, turn;
 
     printf("A fresh hub of %d longwords, %d of them the heap: ", N, H);
     print_key(krowjyvan_fresh(picture, N, N, H));
@@ -101,8 +99,7 @@ int main(void)
     create("The workshop leader starts a helper for desk four", four);
     five = create("Desk five starts", 0);
     show_screen();
-    tank = open_end("Desk four opens a pipe for its fish tank", four, "PIPE_8", 0);
-    tank_page = open_end("Desk four opens its other end for the page about the tank", four, "PIPE", tank);
+    tank = open_queue("Desk four opens a queue for its fish tank", four);
     expect(call("Desk four logs 8 milligrams of oxygen in its tank", KROWJYVAN_TRAP_3, KROWJYVAN_IO_SBYTE, 8, tank, ""), KROWJYVAN_DONE);
 
     expect(call("The workshop leader ends desk four, with all that it owns", KROWJYVAN_TRAP_1, KROWJYVAN_MT_FRJOB, four, 0, ""), KROWJYVAN_DONE);
@@ -110,14 +107,13 @@ int main(void)
     printf("The next turn: job $%08X has it.\n", (unsigned)turn);
     show_screen();
 
-    pond = open_end("Desk five opens a pipe for its pond, where desk four's was", five, "PIPE_8", 0);
-    pond_page = open_end("Desk five opens its other end for the page about the pond", five, "PIPE", pond);
+    pond = open_queue("Desk five opens a queue for its pond, where desk four's was", five);
     expect(call("Desk five logs 2 milligrams in its pond", KROWJYVAN_TRAP_3, KROWJYVAN_IO_SBYTE, 2, pond, ""), KROWJYVAN_DONE);
 
-    expect(call("The page about the fish tank fetches from desk four's old channel", KROWJYVAN_TRAP_3, KROWJYVAN_IO_FBYTE, 0, tank_page, ""),
+    expect(call("The page about the fish tank fetches from desk four's old channel", KROWJYVAN_TRAP_3, KROWJYVAN_IO_FBYTE, 0, tank, ""),
            KROWJYVAN_CHANNEL_NOT_OPEN);
     printf("    So it shows no water at all, and not the neighbour's.\n");
-    expect(call("The page about the pond fetches from desk five's own", KROWJYVAN_TRAP_3, KROWJYVAN_IO_FBYTE, 0, pond_page, ""), KROWJYVAN_DONE);
+    expect(call("The page about the pond fetches from desk five's own", KROWJYVAN_TRAP_3, KROWJYVAN_IO_FBYTE, 0, pond, ""), KROWJYVAN_DONE);
     printf("    It gets %u: desk five's byte was waiting for it.\n", (unsigned)registers[KROWJYVAN_D1]);
     return EXIT_SUCCESS;
 }

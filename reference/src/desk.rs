@@ -77,25 +77,6 @@ impl Desk {
         self.all(2, [0x1, owner, REST, REST, REST, REST, REST, REST], name)
     }
 
-    /// Opens an input of the output's queue, or of what D3 says instead.
-    pub fn join(&mut self, owner: u32, output: u32) -> (Key, Registers) {
-        self.all(2, [0x1, owner, REST, output, REST, REST, REST, REST], b"PIPE")
-    }
-
-    /// An output with a queue of so many bytes and an input of it, both surely opened for their owners.
-    pub fn pipe(&mut self, length: u32, writer: u32, reader: u32) -> (u32, u32) {
-        let (key, after) = self.open(writer, format!("PIPE_{length}").as_bytes());
-        assert_eq!(key, 0);
-        (after[A0], self.input(reader, after[A0]))
-    }
-
-    /// An input that is surely opened.
-    pub fn input(&mut self, owner: u32, output: u32) -> u32 {
-        let (key, after) = self.join(owner, output);
-        assert_eq!(key, 0);
-        after[A0]
-    }
-
     pub fn close(&mut self, channel: u32) -> (Key, Registers) {
         self.all(2, [0x2, REST, REST, REST, channel, REST, REST, REST], b"")
     }
@@ -135,11 +116,6 @@ impl Desk {
 
     pub fn record(&self, number: u32) -> [u32; JOB_RECORD] {
         *self.picture[job_record(position(number))..].first_chunk().unwrap()
-    }
-
-    /// The record of a live channel.
-    pub fn channel(&self, number: u32) -> [u32; CHANNEL_RECORD] {
-        *self.picture[channel_record(position(number))..].first_chunk().unwrap()
     }
 
     pub fn header(&self, at: usize) -> [u32; 4] {

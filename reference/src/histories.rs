@@ -1,12 +1,11 @@
 //! Tests over random histories from fresh pictures: what holds after every step, whatever the steps are.
 
-use std::collections::{BTreeMap, HashSet};
+use std::collections::HashSet;
 
 use crate::fresh::fresh_picture;
 use crate::keys::*;
 use crate::make::world::{Act, Step, World, LIVELY};
 use crate::manager;
-use crate::model::Queues;
 use crate::picture::*;
 use crate::random::Random;
 use crate::registers::*;
@@ -27,15 +26,13 @@ struct History {
     live: [HashSet<u32>; 2],
     dead: [HashSet<u32>; 2],
     longest: u32,
-    queues: Queues,
 }
 
 impl History {
     fn new(length: u32, heap_length: u32) -> Self {
         let picture = fresh_picture(length, heap_length);
         let live = [HashSet::from([0]), HashSet::new()];
-        let queues = Queues::default();
-        History { picture, waiting: Default::default(), live, dead: Default::default(), longest: 0, queues }
+        History { picture, waiting: Default::default(), live, dead: Default::default(), longest: 0 }
     }
 
     /// Takes one step and checks what holds of every step.
@@ -58,7 +55,6 @@ impl History {
         self.check_waiting();
         self.check_numbers();
         self.check_positions();
-        self.queues.check(&self.picture);
     }
 
     fn call(&mut self, trap: u32, registers: Registers, name: &[u8]) {
@@ -69,9 +65,6 @@ impl History {
         if key != DONE {
             assert_eq!(after[D1..], registers[D1..]);
             assert_eq!(self.picture, before);
-        }
-        if before[CURRENT] != NOBODY {
-            self.queues.see(&before, trap, &registers, name, &after);
         }
         // A new job is owned by the job that D1 names, or by nobody where D1 is negative.
         if key == DONE && trap == 1 && registers[D0] == 0x1 {
@@ -143,51 +136,6 @@ fn lively_histories_keep_every_promise() {
             history.step(&mut random, LIVELY);
         }
         assert!(history.dead[0].len() > 20, "{} jobs have died", history.dead[0].len());
-    }
-}
-
-/// Steps that open and close both ends of queues, move their bytes and end their owners.
-const ENDS: &[(Act, usize)] = &[
-    (Act::Open, 6),
-    (Act::Join, 16),
-    (Act::Close, 10),
-    (Act::Send, 30),
-    (Act::Fetch, 30),
-    (Act::Pending, 4),
-    (Act::Create, 6),
-    (Act::Activate, 4),
-    (Act::EndForced, 2),
-    (Act::Take, 3),
-    (Act::Free, 2),
-    (Act::Pick, 4),
-];
-
-#[test]
-fn bytes_come_out_at_the_inputs_as_they_went_in_at_the_output_and_queues_live_as_long_as_their_ends() {
-    let mut random = Random::new(16);
-    let mut met = BTreeMap::new();
-    for round in 0..24 {
-        let (length, heap_length) = [(1_024, 256), (1_024, 24), (2_048, 1_200)][round % 3];
-        let mut history = History::new(length, heap_length);
-        for _ in 0..4_000 {
-            history.step(&mut random, ENDS);
-        }
-        for (what, times) in history.queues.met {
-            *met.entry(what).or_insert(0) += times;
-        }
-    }
-    for (what, least) in [
-        ("opened", 1_000),
-        ("joined", 3_000),
-        ("no output", 300),
-        ("refused", 300),
-        ("fetched", 3_000),
-        ("at the end", 300),
-        ("last end gone", 1_000),
-        ("inputs left", 300),
-        ("output left", 1_000),
-    ] {
-        assert!(met.get(what).is_some_and(|&times| times >= least), "{what}: {met:?}");
     }
 }
 
@@ -278,7 +226,7 @@ fn tags_are_used_up_once_and_for_all() {
 }
 
 /// How many owners lead from a job up to the top, or none where they don't.
-pub fn owners_up_to(picture: &[u32], job: u32, top: u32) -> Option<u32> {
+fn owners_up_to(picture: &[u32], job: u32, top: u32) -> Option<u32> {
     if job == top {
         return Some(0);
     }

@@ -1,7 +1,6 @@
 //! Jobs: the calls $0, $1, $2, $4, $5, $8, $9, $A and $B of trap 1.
 
 use crate::blocks;
-use crate::channels;
 use crate::keys::*;
 use crate::picture::*;
 use crate::registers::*;
@@ -150,7 +149,13 @@ fn end_tree(registers: &mut Registers, picture: &mut [u32], members: u32) -> Ans
             picture[record + job::KEY] = registers[D3];
         }
     }
-    take_channels(picture, members);
+    for k in positions(picture[CHANNEL_MASK]) {
+        let record = channel_record(k);
+        if in_use(members, position(picture[record + channel::OWNER])) {
+            picture[record..record + CHANNEL_RECORD].fill(0);
+            picture[CHANNEL_MASK] &= !(1 << k);
+        }
+    }
     for k in positions(members) {
         let record = job_record(k);
         let at = (picture[record + job::BASE] / 4) as usize;
@@ -163,30 +168,6 @@ fn end_tree(registers: &mut Registers, picture: &mut [u32], members: u32) -> Ans
     blocks::give_back_all(picture, blocks::transient(picture), |_| false);
     registers.fill(0);
     Ok(())
-}
-
-/// Takes the channels of the members of a tree, all at one moment.
-///
-/// A queue that has an end left gets the owner that its ends say; one that has none becomes free, for the sweep to give
-/// back.
-fn take_channels(picture: &mut [u32], members: u32) {
-    let mut taken = 0;
-    for k in positions(picture[CHANNEL_MASK]) {
-        if in_use(members, position(picture[channel_record(k) + channel::OWNER])) {
-            taken |= 1 << k;
-        }
-    }
-    picture[CHANNEL_MASK] &= !taken;
-    for k in positions(taken) {
-        let record = channel_record(k);
-        let base = picture[record + channel::BASE];
-        picture[record..record + CHANNEL_RECORD].fill(0);
-        let at = (base / 4) as usize;
-        match channels::queue_owner(picture, base) {
-            Some(owner) => picture[at + block::OWNER] = owner,
-            None => picture[at + block::KIND] = block::FREE,
-        }
-    }
 }
 
 /// $8: suspends a job.
@@ -556,78 +537,6 @@ mod tests {
             left.iter().all(|&(k, longword)| k > HEAP && [4, 40].contains(&longword)) && left.len() == 2,
             "{left:?}"
         );
-    }
-
-    #[test]
-    fn a_queue_with_an_end_outside_the_tree_stays_with_every_byte() {
-        // Who owns the output and the inputs, and who owns the queue when the child's tree has ended.
-        let (child, grandchild, stranger, zero) = (1, 2, 3, 0);
-        let cases: &[(&[usize], Option<usize>)] = &[
-            (&[child], None),
-            (&[child, grandchild], None),
-            (&[grandchild, child, child], None),
-            (&[child, stranger], Some(stranger)),
-            (&[child, zero, stranger], Some(zero)),
-            (&[child, stranger, zero], Some(stranger)),
-            (&[child, grandchild, stranger, zero], Some(stranger)),
-            (&[child, grandchild, child, zero], Some(zero)),
-            (&[stranger, child], Some(stranger)),
-            (&[stranger, zero, child], Some(stranger)),
-            (&[zero, child, grandchild], Some(zero)),
-            (&[zero, stranger], Some(zero)),
-        ];
-        for (owners, heir) in cases {
-            let mut desk = Desk::fresh();
-            let child = desk.job(true, 0);
-            let jobs = [0, child, desk.job_of(child, 0), desk.job(false, 0)];
-            desk.take(9, child);
-            let output = desk.open(jobs[owners[0]], b"PIPE_5").1[A0];
-            let mut ends = vec![output];
-            ends.extend(owners[1..].iter().map(|&k| desk.input(jobs[k], output)));
-            desk.queue(0x5, output, 0x41, 0);
-            desk.queue(0x5, output, 0x42, 0);
-            let at = (desk.channel(output)[channel::BASE] / 4) as usize;
-            let queue = desk.picture[at..at + 12].to_vec();
-            assert_eq!(desk.job_call(0x4, child, 0, 0, 0).0, 0);
-            assert_eq!(desk.pick().number, 0);
-            for (end, &owner) in ends.iter().zip(*owners) {
-                let gone = [1, 2].contains(&owner);
-                assert_eq!(live_channel(&desk.picture, ChannelNumber(*end)).is_none(), gone, "{owners:?}");
-            }
-            if let Some(heir) = *heir {
-                let mut expected = queue;
-                expected[block::OWNER] = jobs[heir];
-                assert_eq!(desk.picture[at..at + 12], expected, "{owners:?}");
-            } else {
-                assert_eq!(desk.header(HEAP), [1_024, 0, 0, 0], "{owners:?}");
-            }
-        }
-    }
-
-    #[test]
-    fn the_ends_of_a_tree_go_at_one_moment_and_neighbours_join() {
-        let mut desk = Desk::fresh();
-        let child = desk.job(true, 0);
-        let other = desk.job(true, 0);
-        let (kept, outlives) = desk.pipe(1, child, other);
-        let (_, lost) = desk.pipe(1, child, child);
-        desk.take(1, child);
-        let (own, _) = desk.pipe(1, other, child);
-        let base = desk.channel(kept)[channel::BASE];
-        assert_eq!(desk.job_call(0x5, child, 0, 0, 0).0, 0);
-        assert_eq!(desk.header(392), [48, block::QUEUE, other, 0]);
-        // A queue and a plain block were between the two queues that stay.
-        assert_eq!(desk.header(404), [48 + 32, 0, 0, 0]);
-        assert_eq!(desk.header(424), [48, block::QUEUE, other, 0]);
-        assert_eq!(desk.channel(outlives), [outlives, other, base, channel::INPUT]);
-        desk.pick();
-        assert_eq!(desk.queue(0x1, outlives, 0, 0).0, END_OF_FILE);
-        for dead in [kept, lost] {
-            assert_eq!(desk.queue(0x1, dead, 0, 0).0, CHANNEL_NOT_OPEN);
-        }
-        assert_eq!(desk.queue(0x5, own, 0, 0).0, 0);
-        assert_eq!(desk.job_call(0x5, other, 0, 0, 0).0, 0);
-        assert_eq!(desk.header(HEAP), [1_024, 0, 0, 0]);
     }
 
     #[test]

@@ -10,7 +10,6 @@ pub const OUT_OF_RANGE: Key = -4;
 pub const BUFFER_OVERFLOW: Key = -5;
 pub const CHANNEL_NOT_OPEN: Key = -6;
 pub const NOT_FOUND: Key = -7;
-pub const END_OF_FILE: Key = -10;
 pub const BAD_NAME: Key = -12;
 pub const BAD_PARAMETER: Key = -15;
 pub const NOT_SOUND: Key = -16;

@@ -1,4 +1,4 @@
-//! The manager of document 01, with requests 1 to 4 of document 02, in ordinary Rust: jobs, heap, channels, queues and turns
+//! The manager of document 01, with requests 1 to 3 of document 02, in ordinary Rust: jobs, heap, channels, queues and turns
 //! over a lent picture, and the report of a tree.
 //!
 //! Written from the papers alone. It is the second reading that another version is compared with, and the
@@ -27,6 +27,4 @@ mod desk;
 #[cfg(test)]
 mod histories;
 pub mod make;
-#[cfg(test)]
-mod model;
 pub mod random;

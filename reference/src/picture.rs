@@ -60,15 +60,12 @@ pub mod job {
     pub const KEY: usize = 7;
 }
 
-/// The fields of a channel record, and which end of its queue a channel is.
+/// The fields of a channel record.
 pub mod channel {
     pub const NUMBER: usize = 0;
     pub const OWNER: usize = 1;
     pub const BASE: usize = 2;
-    pub const END: usize = 3;
-
-    pub const OUTPUT: u32 = 1;
-    pub const INPUT: u32 = 2;
+    pub const ONE: usize = 3;
 }
 
 /// The fields of a block's header, and its kinds.

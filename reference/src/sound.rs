@@ -30,8 +30,8 @@ pub enum Rule {
     AccumulatedWithin,
     /// "timeout (signed: 0 not suspended, -1 without end, else 1 to 32,767 frames left)", in every job record.
     TimeoutWithin,
-    /// "last longword 1 for output, 2 for input"
-    EndsKnown,
+    /// "Channel record: number, owner, block base, 1"
+    EndsInOne,
     /// "Unused records are all zero"
     Blank(Table),
     /// "A number is tag × 65,536 + position": the position at which its record stands.
@@ -59,12 +59,9 @@ pub enum Rule {
     Untouched,
     /// "kinds 1 and 2 only in the heap, kind 3 only in the transient area"
     KindFits,
-    /// Jobs "match one to one": a kind 3 block is that of exactly one job, its base and its owner. A kind 2 block has
-    /// an end and at most one output, and belongs to the owner of its output or, without one, to that of its end at the
-    /// lowest position.
+    /// "match one to one": a block of the table's kind is that of exactly one entry, its base and its owner.
     BlockMatched(Table),
-    /// Jobs "match one to one": a live job other than 0 has a kind 3 block, at its base and with its owner. A channel's
-    /// base is that of a kind 2 block of the heap, "an input's base is its queue's".
+    /// "match one to one": a live entry, but for job 0, has a block of the table's kind, at its base and with its owner.
     EntryMatched(Table),
     /// "every owner is live, or $FFFFFFFF for a job": in records.
     OwnerLive(Table),
@@ -106,9 +103,7 @@ const RULES: [(Rule, Test); 41] = {
         (TimeoutWithin, |r| {
             r.records(Jobs).all(|(_, record)| (WITHOUT_END..=LONGEST_TIMEOUT).contains(&(record[job::TIMEOUT] as i32)))
         }),
-        (EndsKnown, |r| {
-            r.entries(Channels).all(|(_, record)| [channel::OUTPUT, channel::INPUT].contains(&record[channel::END]))
-        }),
+        (EndsInOne, |r| r.entries(Channels).all(|(_, record)| record[channel::ONE] == 1)),
         (Blank(Jobs), |r| r.is_blank(Jobs)),
         (Blank(Channels), |r| r.is_blank(Channels)),
         (Positioned(Jobs), |r| r.is_positioned(Jobs)),
@@ -141,16 +136,10 @@ const RULES: [(Rule, Test); 41] = {
             r.heap.iter().all(|at| r.picture[at + block::KIND] != block::JOB)
                 && r.transient.iter().all(|at| ![block::PLAIN, block::QUEUE].contains(&r.picture[at + block::KIND]))
         }),
-        (BlockMatched(Jobs), |r| {
-            r.blocks_of(block::JOB).all(|at| r.numbered(Jobs).filter(|record| r.is_home(record, at)).count() == 1)
-        }),
-        (EntryMatched(Jobs), |r| {
-            r.numbered(Jobs).all(|record| r.blocks_of(block::JOB).any(|at| r.is_home(record, at)))
-        }),
-        (BlockMatched(Channels), |r| r.blocks_of(block::QUEUE).all(|at| r.ends_hold(at))),
-        (EntryMatched(Channels), |r| {
-            r.numbered(Channels).all(|record| r.queues().any(|at| record[BASE] == 4 * at as u32))
-        }),
+        (BlockMatched(Jobs), |r| r.blocks_are_matched(Jobs)),
+        (EntryMatched(Jobs), |r| r.entries_are_matched(Jobs)),
+        (BlockMatched(Channels), |r| r.blocks_are_matched(Channels)),
+        (EntryMatched(Channels), |r| r.entries_are_matched(Channels)),
         (OwnerLive(Jobs), |r| r.entries(Jobs).all(|(_, record)| record[OWNER] == NOBODY || r.is_live(record[OWNER]))),
         (OwnerLive(Channels), |r| r.entries(Channels).all(|(_, record)| r.is_live(record[OWNER]))),
         (HolderLive, |r| {
@@ -286,22 +275,25 @@ impl<'a> Reading<'a> {
         self.header_places().filter(move |at| self.picture[at + block::KIND] == kind)
     }
 
-    /// Whether the block at this place is a job's: the record's base is the header's first byte, and owners are equal.
-    fn is_home(&self, record: &[u32], at: usize) -> bool {
+    /// The blocks of the table's kind.
+    fn homes(&self, table: Table) -> impl Iterator<Item = usize> + '_ {
+        self.blocks_of(match table {
+            Table::Jobs => block::JOB,
+            Table::Channels => block::QUEUE,
+        })
+    }
+
+    /// Whether the block at this place is that of a record: its base is the header's first byte, and owners are equal.
+    fn pair(&self, record: &[u32], at: usize) -> bool {
         record[BASE] == 4 * at as u32 && record[OWNER] == self.picture[at + block::OWNER]
     }
 
-    /// The queues of the heap.
-    fn queues(&self) -> impl Iterator<Item = usize> + '_ {
-        self.heap.iter().copied().filter(|at| self.picture[at + block::KIND] == block::QUEUE)
+    fn blocks_are_matched(&self, table: Table) -> bool {
+        self.homes(table).all(|at| self.numbered(table).filter(|record| self.pair(record, at)).count() == 1)
     }
 
-    /// Whether the queue at this place has an end and at most one output, and the owner that its ends say.
-    fn ends_hold(&self, at: usize) -> bool {
-        let ends: Vec<&[u32]> = self.numbered(Table::Channels).filter(|record| record[BASE] == 4 * at as u32).collect();
-        let outputs: Vec<&&[u32]> = ends.iter().filter(|record| record[channel::END] == channel::OUTPUT).collect();
-        let heir = outputs.first().copied().or(ends.first());
-        outputs.len() <= 1 && heir.is_some_and(|record| record[OWNER] == self.picture[at + block::OWNER])
+    fn entries_are_matched(&self, table: Table) -> bool {
+        self.numbered(table).all(|record| self.homes(table).any(|at| self.pair(record, at)))
     }
 
     fn is_live(&self, number: u32) -> bool {
@@ -347,7 +339,7 @@ pub fn is_sound(picture: &[u32]) -> bool {
     if !sizes_hold(picture) {
         return false;
     }
-    let mut blocks = Blocks { marked: Marks::default(), jobs: 0, queues: 0 };
+    let mut blocks = Blocks { marked: [0; MARKS], jobs: 0, queues: 0 };
     blocks.heap_holds(picture)
         && blocks.transient_holds(picture)
         && blocks.jobs_hold(picture)
@@ -378,48 +370,30 @@ fn current_holds(picture: &[u32]) -> bool {
 }
 
 /// One mark for each place of 16 bytes.
-struct Marks([u64; GREATEST_LENGTH / STEP / 64]);
+const MARKS: usize = GREATEST_LENGTH / STEP / 64;
 
-impl Default for Marks {
-    fn default() -> Self {
-        Marks([0; GREATEST_LENGTH / STEP / 64])
-    }
-}
-
-impl Marks {
-    fn mark(&mut self, at: usize) {
-        self.0[at / STEP / 64] |= 1 << (at / STEP % 64);
-    }
-
-    fn is_marked(&self, at: usize) -> bool {
-        self.0[at / STEP / 64] >> (at / STEP % 64) & 1 == 1
-    }
-
-    /// Whether the place was marked; its mark goes.
-    fn unmark(&mut self, at: usize) -> bool {
-        let was = self.is_marked(at);
-        self.0[at / STEP / 64] &= !(1 << (at / STEP % 64));
-        was
-    }
-}
-
-/// The place in the area at which a header can stand that has this base.
-fn place_of(base: u32, area: &Range<usize>) -> Option<usize> {
-    let at = (base / 4) as usize;
-    (base.is_multiple_of(block::HEADER_BYTES) && area.contains(&at)).then_some(at)
-}
-
-/// What the walks have met: the places of job and queue blocks, marked until a record has them, and how many there are.
+/// What the walks have met: the places of job and queue blocks, marked, and how many there are that no record has.
 struct Blocks {
-    marked: Marks,
+    marked: [u64; MARKS],
     jobs: u32,
     queues: u32,
 }
 
 impl Blocks {
-    /// Whether the block at this place waits for a record, and for one of this owner; its mark goes.
-    fn is_met_by(&mut self, at: usize, owner: u32, picture: &[u32]) -> bool {
-        self.marked.unmark(at) && picture[at + block::OWNER] == owner
+    fn mark(&mut self, at: usize) {
+        self.marked[at / STEP / 64] |= 1 << (at / STEP % 64);
+    }
+
+    /// Whether a block that is marked stands at the base; its mark goes, so that no other record has it.
+    fn unmark(&mut self, base: u32, area: Range<usize>) -> bool {
+        let at = (base / 4) as usize;
+        if !base.is_multiple_of(block::HEADER_BYTES) || !area.contains(&at) {
+            return false;
+        }
+        let (longword, bit) = (&mut self.marked[at / STEP / 64], 1 << (at / STEP % 64));
+        let was = *longword & bit != 0;
+        *longword &= !bit;
+        was
     }
 
     fn heap_holds(&mut self, picture: &[u32]) -> bool {
@@ -435,7 +409,7 @@ impl Blocks {
                 block::FREE if owner == 0 && !below_is_free => {}
                 block::PLAIN if live_job(picture, JobNumber(owner)).is_some() => {}
                 block::QUEUE if queue_holds(length, &picture[at + block::HEADER..]) => {
-                    self.marked.mark(at);
+                    self.mark(at);
                     self.queues += 1;
                 }
                 _ => return false,
@@ -458,7 +432,7 @@ impl Blocks {
             match kind {
                 block::FREE if owner == 0 && start == 0 && !below_is_free => {}
                 block::JOB => {
-                    self.marked.mark(at);
+                    self.mark(at);
                     self.jobs += 1;
                 }
                 _ => return false,
@@ -500,8 +474,7 @@ impl Blocks {
                 {
                     return false;
                 }
-                let Some(at) = place_of(base, &area) else { return false };
-                if !self.is_met_by(at, owner, picture) {
+                if !self.unmark(base, area.clone()) || picture[(base / 4) as usize + block::OWNER] != owner {
                     return false;
                 }
             }
@@ -527,10 +500,6 @@ impl Blocks {
         let area = HEAP..HEAP + picture[HEAP_LENGTH] as usize;
         let mut tags = [0; POSITIONS];
         let mut live = 0;
-        let mut inputs = 0;
-        // The queues whose owner is known to be right: the others are still marked.
-        let mut settled = Marks::default();
-        let mut queues = 0;
         let (records, _) = picture[CHANNEL_RECORDS..HEAP].as_chunks::<CHANNEL_RECORD>();
         for (k, record) in records.iter().enumerate() {
             if !in_use(mask, k) {
@@ -539,40 +508,21 @@ impl Blocks {
                 }
                 continue;
             }
-            let [number, owner, base, end] = *record;
+            let [number, owner, base, one] = *record;
             let tag = tag(number);
-            if position(number) != k || tag < 1 || tag > last || tags[..live].contains(&tag) {
+            if position(number) != k || tag < 1 || tag > last || tags[..live].contains(&tag) || one != 1 {
                 return false;
             }
             tags[live] = tag;
             live += 1;
-            let Some(at) = place_of(base, &area) else { return false };
-            if live_job(picture, JobNumber(owner)).is_none() {
+            if live_job(picture, JobNumber(owner)).is_none()
+                || !self.unmark(base, area.clone())
+                || picture[(base / 4) as usize + block::OWNER] != owner
+            {
                 return false;
             }
-            match end {
-                channel::OUTPUT if self.is_met_by(at, owner, picture) => {
-                    settled.mark(at);
-                    queues += 1;
-                }
-                channel::INPUT => inputs |= 1 << k,
-                _ => return false,
-            }
         }
-        // The first input of a queue without an output stands at the lowest position.
-        for k in positions(inputs) {
-            let record = channel_record(k);
-            let at = (picture[record + channel::BASE] / 4) as usize;
-            if settled.is_marked(at) {
-                continue;
-            }
-            if !self.is_met_by(at, picture[record + channel::OWNER], picture) {
-                return false;
-            }
-            settled.mark(at);
-            queues += 1;
-        }
-        self.queues == queues
+        self.queues as usize == live
     }
 }
 
@@ -649,10 +599,10 @@ mod tests {
             (TimeoutWithin, &[(child(job::TIMEOUT), 32_768)]),
             (TimeoutWithin, &[(child(job::TIMEOUT), 0xFFFF_FFFE)]),
             (TimeoutWithin, &[(child(job::TIMEOUT), 0x8000_0000)]),
-            (EndsKnown, &[(channel_record(0) + channel::END, 0)]),
+            (EndsInOne, &[(channel_record(0) + channel::ONE, 0)]),
             (Blank(Jobs), &[(job_record(3) + job::KEY, 1)]),
             (Blank(Jobs), &[(job_record(31), 1)]),
-            (Blank(Channels), &[(channel_record(31) + channel::END, 1)]),
+            (Blank(Channels), &[(channel_record(31) + channel::ONE, 1)]),
             (Positioned(Jobs), &[(child(job::NUMBER), 0x0001_0003), (channel_record(0) + 1, 0), (400 + 2, 0)]),
             (Positioned(Channels), &[(channel_record(0), 0x0001_0001)]),
             (
@@ -711,12 +661,6 @@ mod tests {
                 &[(CHANNEL_MASK, 3), (268, 0x0002_0001), (269, 0), (271, 1), (LAST_CHANNEL_TAG, 2)],
             ),
             (BlockMatched(Channels), &[(412 + 1, 2), (416, 900)]),
-            (BlockMatched(Channels), &[(400 + 2, 0)]),
-            (BlockMatched(Channels), &[(channel_record(0) + 1, JOB_2)]),
-            (
-                OwnerLive(Channels),
-                &[(CHANNEL_MASK, 3), (268, 0x0002_0001), (269, 7), (270, 1_600), (271, 2), (LAST_CHANNEL_TAG, 2)],
-            ),
             (HolderLive, &[(392 + 2, NOBODY)]),
             (HolderLive, &[(392 + 2, 0x0002_0001)]),
             (OwnerOlder, &[(child(job::OWNER), JOB_2), (648 + 2, JOB_2)]),
@@ -747,103 +691,6 @@ mod tests {
         }
     }
 
-    /// The furnished picture with two inputs of its queue: the unowned job's at position 1, job 0's at position 2.
-    fn joined() -> Vec<u32> {
-        let mut picture = furnished();
-        for owner in [JOB_2, 0] {
-            assert_eq!(call(2, &mut [0x1, owner, 0, 0x0001_0000, 0, 0, 0, 0], b"PIPE", &mut picture), 0);
-        }
-        assert_eq!(picture[channel_record(0)..][..4], [0x0001_0000, JOB_1, 1_600, 1]);
-        assert_eq!(picture[channel_record(1)..][..4], [0x0002_0001, JOB_2, 1_600, 2]);
-        assert_eq!(picture[channel_record(2)..][..4], [0x0003_0002, 0, 1_600, 2]);
-        picture
-    }
-
-    #[test]
-    fn rules_of_ends_are_broken_alone_by_hand() {
-        use Rule::*;
-        use Table::*;
-        let [first, second, third] = [0, 1, 2].map(channel_record);
-        let without_output = [(CHANNEL_MASK, 6), (first, 0), (first + 1, 0), (first + 2, 0), (first + 3, 0)];
-        let cases: &[(Rule, &[(usize, u32)])] = &[
-            (EndsKnown, &[(second + channel::END, 0)]),
-            (EndsKnown, &[(second + channel::END, 3)]),
-            (EndsKnown, &[(second + channel::END, NOBODY)]),
-            (EndsKnown, &[(second + channel::END, 0x1_0002)]),
-            // Two outputs, and three.
-            (BlockMatched(Channels), &[(second + channel::END, 1)]),
-            (BlockMatched(Channels), &[(third + channel::END, 1)]),
-            (BlockMatched(Channels), &[(second + channel::END, 1), (third + channel::END, 1)]),
-            // The owner of an input while the output lives, or of none.
-            (BlockMatched(Channels), &[(400 + 2, JOB_2)]),
-            (BlockMatched(Channels), &[(400 + 2, 0)]),
-            // The output stands behind an input, whose owner the queue has.
-            (BlockMatched(Channels), &[(first + channel::END, 2), (third + channel::END, 1)]),
-            (BlockMatched(Channels), &[(400 + 2, 0), (first + channel::END, 2)]),
-            // A channel's base is a plain block, a free one, a job's, or no header at all.
-            (EntryMatched(Channels), &[(second + channel::BASE, 4 * 392)]),
-            (EntryMatched(Channels), &[(second + channel::BASE, 4 * 412)]),
-            (EntryMatched(Channels), &[(second + channel::BASE, 4 * 648)]),
-            (EntryMatched(Channels), &[(second + channel::BASE, 4 * 668)]),
-            (EntryMatched(Channels), &[(second + channel::BASE, 4 * 404)]),
-            (EntryMatched(Channels), &[(second + channel::BASE, 4 * 400 + 1)]),
-            (EntryMatched(Channels), &[(second + channel::BASE, 4 * 400 + 4)]),
-            (EntryMatched(Channels), &[(second + channel::BASE, 0)]),
-            (EntryMatched(Channels), &[(second + channel::BASE, 16)]),
-            (EntryMatched(Channels), &[(second + channel::BASE, 4 * 1_024)]),
-            (EntryMatched(Channels), &[(second + channel::BASE, 0x8000_0000 + 4 * 400)]),
-            (OwnerLive(Channels), &[(second + channel::OWNER, 0x0001_0002)]),
-            (OwnerLive(Channels), &[(second + channel::OWNER, NOBODY)]),
-            (TagOnce(Channels), &[(second, 0x0001_0001)]),
-            (TagGiven(Channels), &[(LAST_CHANNEL_TAG, 2)]),
-        ];
-        for (rule, changes) in cases {
-            assert_eq!(broken_by(joined(), changes), [*rule], "{changes:?}");
-        }
-        // Without the output the queue is that of the input at the lowest position, whatever the tags are.
-        let mut picture = joined();
-        without_output.iter().for_each(|&(place, longword)| picture[place] = longword);
-        assert_eq!(broken_by(picture.clone(), &[]), [BlockMatched(Channels)]);
-        assert_eq!(broken_by(picture.clone(), &[(400 + 2, 0)]), [BlockMatched(Channels)]);
-        assert_eq!(broken_by(picture.clone(), &[(400 + 2, JOB_2)]), []);
-        picture[second] = 0x0003_0001;
-        picture[third] = 0x0001_0002;
-        assert_eq!(broken_by(picture.clone(), &[(400 + 2, 0)]), [BlockMatched(Channels)]);
-        assert_eq!(broken_by(picture.clone(), &[(400 + 2, JOB_2)]), []);
-    }
-
-    /// The rules that changes break, after the fast test has said the same.
-    fn broken_by(mut picture: Vec<u32>, changes: &[(usize, u32)]) -> Vec<Rule> {
-        changes.iter().for_each(|&(place, longword)| picture[place] = longword);
-        let rules = broken(&picture);
-        assert_eq!(is_sound(&picture), rules.is_empty(), "{rules:?} {changes:?}");
-        rules
-    }
-
-    #[test]
-    fn queues_with_inputs_only_and_with_many_ends_are_sound() {
-        let inputs_only = [(channel_record(0) + channel::END, 2)];
-        for count in 0..=5 {
-            let counted = [&inputs_only[..], &[(406, count)]].concat();
-            assert_eq!(broken_by(furnished(), &counted), []);
-            assert_eq!(broken_by(joined(), &counted), []);
-        }
-        assert_eq!(broken_by(furnished(), &[inputs_only[0], (406, 6)]), [Rule::QueueRoom]);
-        // The output stands behind an input and its queue is its own.
-        let behind = [inputs_only[0], (channel_record(2) + channel::END, 1), (400 + 2, 0)];
-        assert_eq!(broken_by(joined(), &behind), []);
-        let mut picture = joined();
-        for _ in 3..POSITIONS {
-            assert_eq!(call(2, &mut [0x1, 0, 0, 0x0001_0000, 0, 0, 0, 0], b"PIPE", &mut picture), 0);
-        }
-        assert_eq!(broken_by(picture.clone(), &[]), []);
-        assert_eq!(broken_by(picture.clone(), &inputs_only), []);
-        assert_eq!(
-            broken_by(picture, &[(channel_record(31) + channel::END, 1)]),
-            [Rule::BlockMatched(Table::Channels)]
-        );
-    }
-
     #[test]
     fn the_heap_can_be_too_short_or_too_long() {
         for heap_length in [0, 632] {
@@ -855,8 +702,8 @@ mod tests {
         }
     }
 
-    /// The rules that can't be broken alone: who owns a job owns its block, and no tag is smaller than job 0's.
-    const NEVER_ALONE: [Rule; 2] = [Rule::OwnerLive(Table::Jobs), Rule::ZeroUnowned];
+    /// The rules that can't be broken alone: whoever owns a record owns its block, and no tag is smaller than job 0's.
+    const NEVER_ALONE: [Rule; 3] = [Rule::OwnerLive(Table::Jobs), Rule::OwnerLive(Table::Channels), Rule::ZeroUnowned];
 
     #[test]
     fn rules_that_are_broken_together() {
@@ -877,7 +724,8 @@ mod tests {
             ),
             (&[BlockMatched(Jobs), EntryMatched(Jobs)], &[(648 + 2, NOBODY)]),
             (&[BlockMatched(Jobs), EntryMatched(Jobs)], &[(stranger(job::OWNER), 0)]),
-            (&[BlockMatched(Channels), EntryMatched(Channels)], &[(channel_record(0) + 2, 4 * 392)]),
+            (&[BlockMatched(Channels), EntryMatched(Channels)], &[(400 + 2, 0)]),
+            (&[BlockMatched(Channels), EntryMatched(Channels)], &[(channel_record(0) + 1, JOB_2)]),
             (&[OwnerLive(Jobs), HolderLive], &[(stranger(job::OWNER), 0x0001_0002), (656 + 2, 0x0001_0002)]),
             (&[OwnerLive(Channels), HolderLive], &[(channel_record(0) + 1, NOBODY), (400 + 2, NOBODY)]),
             (&[OwnerOlder, ZeroUnowned], &[(9, JOB_1)]),
@@ -917,8 +765,6 @@ mod tests {
             &[(CURRENT, JOB_1), (child(job::PRIORITY), 127), (child(job::ACCUMULATED), 8_191)],
             &[(405, 4), (406, 5)],
             &[(404, 16)],
-            // A queue that only has an input.
-            &[(channel_record(0) + channel::END, 2)],
             // Blocks without room, and no free block at all.
             &[(392, 16), (396, 16), (397, 1)],
             &[(412 + 1, 1)],

@@ -135,52 +135,9 @@ static void calls(void)
     expect("the first channel", registers[KROWJYVAN_A0], KROWJYVAN_TAG_WEIGHT);
     expect("its record", picture[KROWJYVAN_FIRST_CHANNEL + KROWJYVAN_NUMBER], registers[KROWJYVAN_A0]);
     expect("its bit", picture[KROWJYVAN_CHANNEL_MASK_WORD], 1);
-    expect("its end", picture[KROWJYVAN_FIRST_CHANNEL + KROWJYVAN_ENDING], KROWJYVAN_OUTPUT);
     expect("a pick", krowjyvan_pick(picture, N, &number), KROWJYVAN_DONE);
     expect("job 0", number, picture[KROWJYVAN_CURRENT_WORD]);
     expect("a tick", krowjyvan_tick(picture, N), KROWJYVAN_DONE);
-}
-
-/* A call with D1, D3 and A0: its key, and the registers that it leaves. */
-static int32_t made(uint32_t *picture, uint32_t trap, uint32_t code, uint32_t d1, uint32_t d3, uint32_t a0, const char *name, uint32_t *registers)
-{
-    for (size_t i = 0; i < KROWJYVAN_REGISTERS; i++)
-        registers[i] = 0;
-    registers[KROWJYVAN_D0] = code;
-    registers[KROWJYVAN_D1] = d1;
-    registers[KROWJYVAN_D3] = d3;
-    registers[KROWJYVAN_A0] = a0;
-    return krowjyvan_call(picture, N, trap, registers, KROWJYVAN_REGISTERS, (const uint8_t *)name, strlen(name));
-}
-
-/* Both ends of a queue, and what remains when the output is gone. */
-static void ends(void)
-{
-    static uint32_t picture[N];
-    uint32_t r[KROWJYVAN_REGISTERS], output, input;
-
-    expect("fresh", krowjyvan_fresh(picture, N, N, H), KROWJYVAN_DONE);
-    expect("nothing to join", made(picture, KROWJYVAN_TRAP_2, KROWJYVAN_IO_OPEN, 0, 0, 0, "PIPE", r), KROWJYVAN_CHANNEL_NOT_OPEN);
-    expect("an output", made(picture, KROWJYVAN_TRAP_2, KROWJYVAN_IO_OPEN, 0, 0, 0, "PIPE_2", r), KROWJYVAN_DONE);
-    output = r[KROWJYVAN_A0];
-    expect("an input", made(picture, KROWJYVAN_TRAP_2, KROWJYVAN_IO_OPEN, 0, output, 0, "pipe", r), KROWJYVAN_DONE);
-    input = r[KROWJYVAN_A0];
-    expect("its number", input, 2 * KROWJYVAN_TAG_WEIGHT + 1);
-    expect("its end", picture[KROWJYVAN_FIRST_CHANNEL + KROWJYVAN_CHANNEL_WIDTH + KROWJYVAN_ENDING], KROWJYVAN_INPUT);
-    expect("its base", picture[KROWJYVAN_FIRST_CHANNEL + KROWJYVAN_CHANNEL_WIDTH + KROWJYVAN_BASE], 4 * KROWJYVAN_HEAP_BASE);
-    expect("no output", made(picture, KROWJYVAN_TRAP_2, KROWJYVAN_IO_OPEN, 0, input, 0, "PIPE", r), KROWJYVAN_CHANNEL_NOT_OPEN);
-    expect("nothing sent", made(picture, KROWJYVAN_TRAP_3, KROWJYVAN_IO_FBYTE, 0, 0, input, "", r), KROWJYVAN_NOT_COMPLETE);
-    expect("fetched at the output", made(picture, KROWJYVAN_TRAP_3, KROWJYVAN_IO_FBYTE, 0, 0, output, "", r), KROWJYVAN_BAD_PARAMETER);
-    expect("asked at the output", made(picture, KROWJYVAN_TRAP_3, KROWJYVAN_IO_PEND, 0, 0, output, "", r), KROWJYVAN_BAD_PARAMETER);
-    expect("sent at the input", made(picture, KROWJYVAN_TRAP_3, KROWJYVAN_IO_SBYTE, 7, 0, input, "", r), KROWJYVAN_BAD_PARAMETER);
-    expect("sent", made(picture, KROWJYVAN_TRAP_3, KROWJYVAN_IO_SBYTE, 7, 0, output, "", r), KROWJYVAN_DONE);
-    expect("the output closed", made(picture, KROWJYVAN_TRAP_2, KROWJYVAN_IO_CLOSE, 0, 0, output, "", r), KROWJYVAN_DONE);
-    expect("what remains", made(picture, KROWJYVAN_TRAP_3, KROWJYVAN_IO_FBYTE, 0, 0, input, "", r), KROWJYVAN_DONE);
-    expect("the byte", r[KROWJYVAN_D1], 7);
-    expect("the end", made(picture, KROWJYVAN_TRAP_3, KROWJYVAN_IO_FBYTE, 0, 0, input, "", r), KROWJYVAN_END_OF_FILE);
-    expect("the end is seen", made(picture, KROWJYVAN_TRAP_3, KROWJYVAN_IO_PEND, 0, 0, input, "", r), KROWJYVAN_END_OF_FILE);
-    expect("the input closed", made(picture, KROWJYVAN_TRAP_2, KROWJYVAN_IO_CLOSE, 0, 0, input, "", r), KROWJYVAN_DONE);
-    expect("the whole heap", picture[KROWJYVAN_HEAP_BASE], 4 * H);
 }
 
 /* Creates a job for its owner. */
@@ -281,7 +238,6 @@ int main(void)
     unsound();
     sizes();
     calls();
-    ends();
     reports();
     texts();
     printf("%u\n", tried);

@@ -14,14 +14,14 @@ use Rattle.picture.specs.declared.Table.TheVariants.{Jobs}
 use Rattle.picture.specs.declared.Area.TheVariants.{Transient}
 use Rattle.picture.proofs.Records.{used_below}
 use Rattle.blocks.proofs.Starts.{starts_in}
-use Rattle.sound_matching.specs.Match.{ordinary, has_block}
+use Rattle.sound_matching.specs.Match.{has_block}
 use Rattle.picture.specs.Layout.{greatest_priority}
 use Rattle.sound.specs.Sound.{sound}
 use Rattle.sound_facts.proofs.Sound.{Sound}
 use Rattle.sound_facts.proofs.View.{view}
 
 has_block_other : (p : List ℕ) (k : ℕ) → used p Jobs k ≡ true → 0 < k → has_block p Jobs k ≡ true
-unfolding has_block ordinary
+unfolding has_block
 has_block_other p k u l = rw (le-leb 1 k l, u)
 
 pub base_within : (p : List ℕ) (k : ℕ) → sound p ≡ true → used p Jobs k ≡ true → base p Jobs k < 4 * greatest_size

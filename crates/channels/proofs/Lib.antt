@@ -1,3 +1,3 @@
 -- Laws of the definitions of specs/.
+pub mod Found
 pub mod Timeout
-pub mod Ways

@@ -1,14 +1,17 @@
-// The calls on the ends of a queue: asking, fetching and sending.
+// The calls on open channels: closing, asking, fetching and sending.
 ghost use Rattle.std.specs.Prelude.{◌≡◌, true, ◌<◌, ◌≤◌, length};
-ghost use Rattle.picture.specs.Layout.{positions, heap_base};
+ghost use Rattle.picture.specs.Layout.{positions, heap_base, greatest_size, upto};
+ghost use Rattle.picture.specs.declared.Area.TheVariants.{Heap};
 ghost use Rattle.picture.specs.declared.Table.TheVariants.{Channels};
+ghost use Rattle.picture.specs.Numbers.{channel_at};
+ghost use Rattle.calls.specs.Registers.{A0};
 ghost use Rattle.sound.specs.Sound.{sound};
 ghost use Rattle.calls.specs.Outcome.{Meets};
 ghost use Rattle.calls.specs.Call.{outcome};
-ghost use Rattle.channels.specs.Effects.{immediate, usable, empty_key};
-ghost use Rattle.channels.specs.Calls.{pending, fetch, send};
+ghost use Rattle.channels.specs.Effects.{queue_of, forgotten, closed, immediate};
+ghost use Rattle.channels.specs.Calls.{close_channel, pending, fetch, send};
 
-use picture::{ChannelFound, Table};
+use picture::{Area, ChannelFound, ChannelNumber, Table};
 use words::{put, word};
 
 // D3's low word, a timeout, is 0.
@@ -18,39 +21,68 @@ pub fn is_immediate(d: &[u32]) -> bool
     words::low_half(word(d, calls::D3)) == 0
 }
 
-// A call for ends of this sort may go on at the channel at position k: the channel is such an end, and the timeout is 0.
-pub fn is_usable(p: &[u32], d: &[u32], k: usize, end: u32) -> bool
-    requires { k < positions Channels }
-    ensures { result ≡ usable p.now d.now k end }
+// The position of the channel that A0 names, by its whole number.
+pub fn channel_named(p: &[u32], d: &[u32]) -> ChannelFound
+    ensures { result ≡ channel_at p.now (A0 d.now) }
 {
-    (picture::field_of(p, Table::Channels, k, picture::ENDING) == end) & is_immediate(d)
+    picture::channel_at(p, ChannelNumber(word(d, calls::A0)))
 }
 
-// The key for an input, at position k, whose queue is empty: the queue may still be sent to, or its output is gone.
-pub fn empty_key(p: &[u32], k: usize) -> i32
-    requires { (heap_base ≤ length p.now) × (k < positions Channels) }
-    ensures { result ≡ empty_key p.now k }
+// The queue of the channel at position k: its block.
+pub fn queue_at(p: &[u32], k: usize) -> usize
+    requires { k < positions Channels }
+    ensures { (result ≡ queue_of p.now k) × (result < 1073741824) }
 {
-    let base = picture_tables::field_of(p, Table::Channels, k, picture::BASE);
-    if ends::has_output(p, base) {
-        return picture::NOT_COMPLETE;
-    }
-    picture::END_OF_FILE
+    picture::field_of(p, Table::Channels, k, picture::BASE) as usize / 4
+}
+
+// The entry of position k is gone.
+pub fn forget(p: &mut [u32], t: Table, k: usize)
+    requires { (heap_base ≤ length p.old) × (k < positions t) }
+    ensures { p.new ≡ forgotten p.old t k }
+{
+    let left = masks::without_member(picture::members_at(p, t), k);
+    let slot = picture::slot_of(t, k);
+    words::clear(p, slot, slot + picture::width_of(t));
+    picture::put_members(p, t, left);
+}
+
+// The channel at position k is gone.
+pub fn remove_channel(p: &mut [u32], k: usize)
+    requires { ((heap_base ≤ length p.old) × (k < positions Channels)) × (upto p.old Heap ≤ greatest_size) }
+    ensures { p.new ≡ closed p.old k }
+{
+    let block = queue_at(p, k);
+    let from = picture::area_from(p, Area::Heap);
+    let upto = picture::area_upto(p, Area::Heap);
+    freeing::sweep(p, from, upto, 0, block);
+    forget(p, Table::Channels, k);
+}
+
+// Trap 2 $2: closes a channel.
+pub fn close_channel(p: &mut [u32], d: &mut [u32]) -> i32
+    requires { sound p.old ≡ true }
+    ensures { Meets (outcome close_channel p.old d.old) result p.new d.new }
+{
+    let ChannelFound::At(k) = channel_named(p, d) else {
+        return picture::CHANNEL_NOT_OPEN;
+    };
+    remove_channel(p, k);
+    picture::DONE
 }
 
 // Trap 3 $0: asks whether a byte waits.
 pub fn pending(p: &mut [u32], d: &mut [u32]) -> i32
-    requires { sound p.old ≡ true }
     ensures { Meets (outcome pending p.old d.old) result p.new d.new }
 {
-    let ChannelFound::At(k) = closing::channel_named(p, d) else {
+    let ChannelFound::At(k) = channel_named(p, d) else {
         return picture::CHANNEL_NOT_OPEN;
     };
-    if !is_usable(p, d, k, ends::INPUT) {
+    if !is_immediate(d) {
         return picture::BAD_PARAMETER;
     }
-    if !queues::is_waiting(p, closing::queue_at(p, k)) {
-        return empty_key(p, k);
+    if !queues::is_waiting(p, queue_at(p, k)) {
+        return picture::NOT_COMPLETE;
     }
     picture::DONE
 }
@@ -60,15 +92,15 @@ pub fn fetch(p: &mut [u32], d: &mut [u32]) -> i32
     requires { sound p.old ≡ true }
     ensures { Meets (outcome fetch p.old d.old) result p.new d.new }
 {
-    let ChannelFound::At(k) = closing::channel_named(p, d) else {
+    let ChannelFound::At(k) = channel_named(p, d) else {
         return picture::CHANNEL_NOT_OPEN;
     };
-    if !is_usable(p, d, k, ends::INPUT) {
+    if !is_immediate(d) {
         return picture::BAD_PARAMETER;
     }
-    let i = closing::queue_at(p, k);
+    let i = queue_at(p, k);
     if !queues::is_waiting(p, i) {
-        return empty_key(p, k);
+        return picture::NOT_COMPLETE;
     }
     put(d, calls::D1, queues::oldest_of(p, i));
     queues::take_oldest(p, i);
@@ -80,13 +112,13 @@ pub fn send(p: &mut [u32], d: &mut [u32]) -> i32
     requires { sound p.old ≡ true }
     ensures { Meets (outcome send p.old d.old) result p.new d.new }
 {
-    let ChannelFound::At(k) = closing::channel_named(p, d) else {
+    let ChannelFound::At(k) = channel_named(p, d) else {
         return picture::CHANNEL_NOT_OPEN;
     };
-    if !is_usable(p, d, k, ends::OUTPUT) {
+    if !is_immediate(d) {
         return picture::BAD_PARAMETER;
     }
-    let i = closing::queue_at(p, k);
+    let i = queue_at(p, k);
     if queues::is_full(p, i) {
         return picture::NOT_COMPLETE;
     }

@@ -53,7 +53,7 @@ fn blank(p: &mut [u32], t: Table, set: u64, k: usize)
 }
 
 // The table is without the entries of the set.
-pub fn empty_table(p: &mut [u32], t: Table, set: u64)
+fn empty_table(p: &mut [u32], t: Table, set: u64)
     requires { heap_base ≤ length p.old }
     ensures { p.new ≡ emptied p.old t set }
 {

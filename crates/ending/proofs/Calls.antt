@@ -11,28 +11,17 @@ use Rattle.picture.specs.Keys.{not_complete, invalid_job, bad_parameter}
 use Rattle.picture.specs.declared.Area.TheVariants.{Heap, Transient}
 use Rattle.picture.specs.declared.JobFound.TheVariants.{At, Dead}
 use Rattle.sound.specs.Sound.{sound}
-use Rattle.sound_facts.proofs.Sound.{Sizes, Sound}
 use Rattle.sound_facts.proofs.View.{view}
-use Rattle.parting.specs.Parted.{leaving}
-use Rattle.law_parting.proofs.Parted.{parting_keeps_sound}
-use Rattle.law_parting.proofs.Leaving.{leaving_fits, leaving_leaves_an_end}
 use Rattle.calls.specs.Outcome.{refuse, succeed}
 use Rattle.calls.specs.Call.{outcome}
 use Rattle.calls.specs.Registers.{D1, D3, cleared, meant}
 use Rattle.tree.specs.Tree.{tree}
-use Rattle.ending.specs.Ended.{left_to_others, ended}
+use Rattle.ending.specs.Ended.{ended}
 use Rattle.ending.specs.Remove.{inactive, removal, remove, force_remove}
-
-sizes_within : (p : List ℕ) → Sizes p → (upto p Heap ≤ greatest_size) × (upto p Transient ≤ greatest_size)
-sizes_within p z = let l = z.long in let m = z.most in let h = z.heap_most in (omega arith, omega arith)
 
 -- the areas of a sound picture end within it
 pub areas_within : (p : List ℕ) → sound p ≡ true → (upto p Heap ≤ greatest_size) × (upto p Transient ≤ greatest_size)
-areas_within p s = sizes_within p (view p s).sizes
-
--- and so do those of the picture in which queues are left to others
-pub areas_left_within : (p : List ℕ) (c : ℕ) → sound p ≡ true → (upto (left_to_others p c) Heap ≤ greatest_size) × (upto (left_to_others p c) Transient ≤ greatest_size)
-areas_left_within p c s = sizes_within (left_to_others p c) (parting_keeps_sound p (view p s) (leaving p c) (leaving_fits p c) (leaving_leaves_an_end p c)).sizes
+areas_within p s = let z = (view p s).sizes in let l = z.long in let m = z.most in let h = z.heap_most in (omega arith, omega arith)
 
 module _ (p d : List ℕ) where
   pub remove_no_job : job_at p (meant p (D1 d)) ≡ Dead → outcome remove p d ≡ refuse invalid_job p d

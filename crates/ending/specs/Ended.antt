@@ -1,5 +1,5 @@
 -- rule 80: "Takes the job and all descendants, with their blocks and channels. A job outside the tree waiting for one of them
--- has timeout and wait 0 and D3 as key to deliver." "When a tree ends, a queue with an .. end outside it stays."
+-- has timeout and wait 0 and D3 as key to deliver."
 use Rattle.std.specs.Prelude.{ℕ, ◌/◌, List}
 use Rattle.picture.specs.Layout.{from, upto}
 use Rattle.picture.specs.Records.{base}
@@ -8,7 +8,6 @@ use Rattle.picture.specs.declared.Area.TheVariants.{Heap, Transient}
 use Rattle.freeing.specs.Sweep.{swept}
 use Rattle.tree.specs.Tree.{tree}
 use Rattle.emptying.specs.Taken.{channels_of, taken}
-use Rattle.parting.specs.Parted.{parted, leaving}
 
 -- no block starts at 0
 abbrev pub no_block : ℕ
@@ -18,11 +17,7 @@ no_block = 0
 unfoldable pub returned : List ℕ → ℕ → ℕ → List ℕ
 returned p m a = swept (swept p (from p Heap) (upto p Heap) m no_block) (from p Transient) (upto p Transient) m a
 
--- the ends of the set c that leave their queue to another are gone; the other ends of c go with their blocks
-abbrev pub left_to_others : List ℕ → ℕ → List ℕ
-left_to_others p c = parted p (leaving p c)
-
 -- the picture without the tree of the job at position t: in plain words `Leaves` and `Takes` (law_ending/specs/Promise.antt), by `ending_takes_the_tree_and_no_more`
 -- (law_promises/proofs/Ending.antt)
 unfoldable pub ended : List ℕ → ℕ → ℕ → List ℕ
-ended p t key = taken (returned (left_to_others p (channels_of p (tree p t))) (tree p t) (base p Jobs t / 4)) (tree p t) (channels_of p (tree p t)) key
+ended p t key = taken (returned p (tree p t) (base p Jobs t / 4)) (tree p t) (channels_of p (tree p t)) key

@@ -44,14 +44,12 @@ pub fn return_blocks(p: &mut [u32], set: u64, block: usize)
 
 // The tree of the job at position t is ended.
 pub fn end_tree(p: &mut [u32], t: usize, key: u32)
-    requires { (sound p.old ≡ true) × (t < positions Jobs) }
+    requires { ((heap_base ≤ length p.old) × (t < positions Jobs)) × ((upto p.old Heap ≤ greatest_size) × (upto p.old Transient ≤ greatest_size)) }
     ensures { p.new ≡ ended p.old t key }
 {
     let tree = tree_of(p, t);
     let channels = channels_of(p, tree);
     let block = (field_of(p, Table::Jobs, t, picture::BASE) / 4) as usize;
-    let leaving = parting::leaving_of(p, channels);
-    parting::part(p, leaving);
     return_blocks(p, tree, block);
     take_entries(p, tree, channels, key);
 }

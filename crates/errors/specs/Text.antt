@@ -1,4 +1,4 @@
--- Document 01 (rules 111 to 113): "Error text: two texts are lent, the system's (21 strings for keys -1 to -21) and the driver's."
+-- Document 01 (rules 110 to 112): "Error text: two texts are lent, the system's (21 strings for keys -1 to -21) and the driver's."
 use Rattle.std.specs.Prelude.{◌≡◌, Bool, cond, List, ℕ, zero, suc, ◌+◌, ◌*◌, ◌<◌, ◌≤◌, leb, ltb, ℤ, pos, negsuc, length, get_or, take, drop}
 use Rattle.std.specs.Borrow.{Bor}
 use Rattle.picture.specs.Keys.{done, not_found}
@@ -7,7 +7,7 @@ use Rattle.errors.specs.declared.Place.TheVariants.{At, Cut}
 use Rattle.errors.specs.declared.Spot.{Spot}
 use Rattle.errors.specs.declared.Spot.TheVariants.{System, Driver, Nowhere}
 
--- rule 111: "A string is a length word, high byte first, and its characters; strings follow without padding"
+-- rule 110: "A string is a length word, high byte first, and its characters; strings follow without padding"
 abbrev pub length_word : List ℕ → ℕ → ℕ
 length_word s at = get_or s at 0 * 256 + get_or s (at + 1) 0
 
@@ -36,8 +36,8 @@ abbrev pub in_driver : Place → Spot
 in_driver (At start count) = Driver start count
 in_driver Cut = Nowhere
 
--- rule 112: "A negative key picks a system string by order; a positive key is the offset of a length word in the driver's text."
--- rule 113: "Cut short, key below -21, or key 0": nowhere
+-- rule 111: "A negative key picks a system string by order; a positive key is the offset of a length word in the driver's text."
+-- rule 112: "Cut short, key below -21, or key 0": nowhere
 abbrev pub system_strings : ℕ
 system_strings = 21
 
@@ -52,13 +52,13 @@ pub record Lies (t : Bor (List ℕ)) (at count : ℕ) (r : Bor (List ℕ)) : Typ
   pub block : r.ref_ptr.0 ≡ t.ref_ptr.0
   pub place : r.ref_ptr.1 ≡ t.ref_ptr.1 + at
 
--- rules 112 and 113: "The answer is that part of the lent text itself": or "the empty part at the start of the system's text"
+-- rules 111 and 112: "The answer is that part of the lent text itself": or "the empty part at the start of the system's text"
 abbrev pub Answer : Spot → Bor (List ℕ) → Bor (List ℕ) → Bor (List ℕ) → Type 0
 Answer (System start count) system driver r = Lies system start count r
 Answer (Driver start count) system driver r = Lies driver start count r
 Answer Nowhere system driver r = Lies system 0 0 r
 
--- rules 112 and 113: "the characters alone, with key 0"; nowhere: -7
+-- rules 111 and 112: "the characters alone, with key 0"; nowhere: -7
 abbrev pub spot_key : Spot → ℤ
 spot_key (System start count) = done
 spot_key (Driver start count) = done

@@ -1,4 +1,4 @@
--- Document 01 (rule 99): "Freeing merges with free neighbours in the area; an absorbed header becomes four zeros, other old bytes stay."
+-- Document 01 (rule 98): "Freeing merges with free neighbours in the area; an absorbed header becomes four zeros, other old bytes stay."
 -- One sweep gives back all blocks that go: one block, or those of a set of owners. In plain words: a block given back is `released` (law_freeing/specs/Merge.antt),
 -- longword by longword, by `sweeping_one_block_releases_it` (law_freeing/proofs/Merged.antt); what any sweep leaves is `sweeping_keeps_the_area` (Swept.antt).
 use Rattle.std.specs.Prelude.{ℕ, ◌-◌, ◌*◌, Bool, ◌&&◌, ◌||◌, not, cond, List, [], ◌∷◌, ltb, eqb}

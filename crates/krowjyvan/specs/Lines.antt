@@ -1,4 +1,4 @@
--- The lines of a report for a hub in C, which lends a table of longwords: five a line (rule 130).
+-- The lines of a report for a hub in C, which lends a table of longwords: five a line (rule 129).
 use Rattle.std.specs.Prelude.{ℕ, ◌/◌, List, [], ◌∷◌, ◌++◌, length}
 use Rattle.report_lines.specs.declared.JobLine.{JobLine}
 use Rattle.report_table.specs.Longwords.{line_longwords}

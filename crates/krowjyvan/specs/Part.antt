@@ -1,4 +1,4 @@
--- An error's text for a hub in C, which can't be handed a part of a slice (rule 130): where its characters start, and how many they are.
+-- An error's text for a hub in C, which can't be handed a part of a slice (rule 129): where its characters start, and how many they are.
 use Rattle.std.specs.Prelude.{cond, List, ℕ, zero, suc, ℤ, pos, negsuc}
 use Rattle.std.specs.Borrow.{Bor}
 use Rattle.words.specs.Signed.{eq_z}

@@ -1,5 +1,4 @@
--- Laws of the definitions of specs/, of a part that was cleared, and of the walk.
+-- Laws of the definitions of specs/, and of a part that was cleared.
 pub mod Row
 pub mod Clear
 pub mod Lie
-pub mod Walk

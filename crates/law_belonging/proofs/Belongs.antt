@@ -12,7 +12,7 @@ use Rattle.picture.specs.Numbers.{position, live}
 use Rattle.picture.specs.declared.Table.TheVariants.{Jobs}
 use Rattle.picture.proofs.Records.{used_below}
 use Rattle.picture.proofs.Numbers.{Live, live_is}
-use Rattle.sound_matching.specs.Match.{has_block, ordinary}
+use Rattle.sound_matching.specs.Match.{has_block}
 use Rattle.sound.specs.Sound.{sound}
 use Rattle.sound_facts.proofs.Sound.{Sound}
 use Rattle.sound_facts.proofs.View.{view}
@@ -37,7 +37,7 @@ module _ (p : List ℕ) (s : sound p ≡ true) (n o : ℕ) (lives : live p Jobs 
   not_zero = let z : position n ≡ 0 → ⊥ = (λ e. some (sym owned ∙ ap (owner p Jobs) e ∙ S.jobs.zero_unowned)) in omega arith
 
   has : has_block p Jobs (position n) ≡ true
-  unfolding has_block ordinary
+  unfolding has_block
   has = rw (le-leb 1 (position n) not_zero, L.used)
 
   -- the job that the record names stands at its position

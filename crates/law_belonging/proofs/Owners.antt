@@ -7,7 +7,7 @@ use native.Mathlib.Omega.{arith}
 use lib.ListN.{length}
 use lib.Dec.{eqb}
 use Rattle.picture.specs.Layout.{positions}
-use Rattle.picture.specs.Records.{owner, used, owner_field}
+use Rattle.picture.specs.Records.{owner, used, slot, owner_field, ending_field}
 use Rattle.picture.specs.Numbers.{position, live}
 use Rattle.picture.specs.Keys.{bad_parameter}
 use Rattle.picture.specs.declared.Table.{Table}
@@ -31,13 +31,16 @@ use Rattle.law_ending.proofs.Promise.{ending_takes_the_tree}
 use Rattle.law_ending.proofs.Calls.{of_remove, of_force_remove}
 use Rattle.memory.specs.Memory.{longest_room}
 use Rattle.law_memory.proofs.Others.{take_keeps_the_tables, give_back_keeps_the_tables}
-use Rattle.sound_facts.proofs.Jobs.{JobsSame}
-use Rattle.law_opening.proofs.Entry.{OneMore}
-use Rattle.law_opening.proofs.Open.{open_channel_makes_one}
-use Rattle.closing.specs.Effects.{closed}
-use Rattle.law_channels.proofs.Parted.{Closing, one_position, closing}
+use Rattle.entering.specs.Entry.{next_tag}
+use Rattle.law_entering.proofs.Kept.{owner_stays}
+use Rattle.names.specs.Names.{number_in, named}
+use Rattle.opening.specs.Effects.{opened}
+use Rattle.law_opening.proofs.Ways as opening
+use Rattle.law_opening.proofs.Opened as the
+use Rattle.channels.specs.Effects.{closed}
+use Rattle.law_channels.proofs.Closed.{jobs_same, field_old}
 use Rattle.law_channels.proofs.Close.{close_channel_ways}
-use Rattle.law_channels.proofs.Queues.{a_closed_channel_is_dead}
+use Rattle.law_channels.proofs.Queues.{one_position, a_closed_channel_is_dead}
 use Rattle.law_queues.proofs.Kept.{pending_keeps_the_tables, fetch_keeps_the_tables, send_keeps_the_tables}
 use Rattle.manager.specs.Door.{checked, with_key, called}
 use Rattle.manager.specs.Turn.{pick_picture, ticking}
@@ -67,16 +70,28 @@ module _ (p : List ℕ) (s : sound p ≡ true) (t : Table) (n : ℕ) (lives : li
   ended_keeps : (k key : ℕ) → used p Jobs k ≡ true → (k ≡ 0 → ⊥) → Kept (ended p k key)
   ended_keeps k key u z l = ((ending_takes_the_tree p k key s u z).old_entries t (position n) (live_is (ended p k key) t n l).used).same_owner
 
--- a new channel: the jobs and the other channels keep their records
-one_more_keeps : (p q : List ℕ) (o : ℕ) → OneMore p q o → (t : Table) (n : ℕ) → live p t n ≡ true → owner q t (position n) ≡ owner p t (position n)
-one_more_keeps p q o M Jobs n l = M.jobs.fields (position n) owner_field (used_below p Jobs (position n) (live_is p Jobs n l).used) (omega arith)
-one_more_keeps p q o M Channels n l = M.channels (position n) owner_field (live_is p Channels n l).used (omega arith)
+-- a new channel: its record is written, and behind it its last longword
+module _ (p d name : List ℕ) (s : sound p ≡ true) (c : opening.Checked p d name) where
+  abbrev o : ℕ
+  o = meant p (D1 d)
+
+  abbrev length_asked : ℕ
+  length_asked = number_in (named name)
+
+  apart : (t : Table) (j k : ℕ) → j < positions t → slot t j + owner_field ≡ slot Channels k + ending_field → ⊥
+  apart Jobs j k l e = omega arith
+  apart Channels j k l e = omega arith
+
+  opened_keeps : (t : Table) (n : ℕ) → live p t n ≡ true → owner (opened p o length_asked) t (position n) ≡ owner p t (position n)
+  opened_keeps t n l =
+      the.q_other p o length_asked s c.place c.tagged c.room (slot t (position n) + owner_field) (apart t (position n) _ (used_below p t (position n) (live_is p t n l).used))
+      ∙ owner_stays p _ Channels _ (next_tag p Channels) o _ (the.entry p o length_asked s c.place c.tagged c.room) (the.there p o length_asked s c.place c.tagged c.room) (the.vacant p o length_asked s c.place c.tagged c.room) t n l
 
 -- a channel that is closed: the others keep their records, and so do all jobs
 closed_keeps : (p : List ℕ) (m : ℕ) (s : sound p ≡ true) → live p Channels m ≡ true → (t : Table) (n : ℕ) → live p t n ≡ true → live (closed p (position m)) t n ≡ true
     → owner (closed p (position m)) t (position n) ≡ owner p t (position n)
-closed_keeps p m s a Jobs n l _ = (closing p m s a).jobs.fields (position n) owner_field (used_below p Jobs (position n) (live_is p Jobs n l).used) (omega arith)
-closed_keeps p m s a Channels n l k = (closing p m s a).fields (position n) owner_field (used_below p Channels (position n) (live_is p Channels n l).used) (omega arith)
+closed_keeps p m s a Jobs n l _ = (jobs_same p m s a).fields (position n) owner_field (used_below p Jobs (position n) (live_is p Jobs n l).used) (omega arith)
+closed_keeps p m s a Channels n l k = field_old p m s a (position n) owner_field (used_below p Channels (position n) (live_is p Channels n l).used) (omega arith)
     (λ e. let z = one_position p n m l a e in a_closed_channel_is_dead p m s a (rw z at k))
 
 module _ (n : ℕ) (p d name : List ℕ) (s : sound p ≡ true) (t : Table) (m : ℕ) (lives : live p t m ≡ true) where
@@ -104,7 +119,7 @@ module _ (n : ℕ) (p d name : List ℕ) (s : sound p ≡ true) (t : Table) (m :
     prioritizes = λ _ _. steady_keeps p s t m lives _ (set_priority_is_steady p d s);
     takes = tables_keep p s t m lives _ (take_keeps_the_tables p d s);
     gives_back = tables_keep p s t m lives _ (give_back_keeps_the_tables p d s);
-    opens = open_channel_makes_one p d name s Same (λ k l. refl) (λ q c o l. one_more_keeps p q (meant p (D1 d)) o t m lives);
+    opens = opening.open_channel_ways Same p d name (λ k l. refl) (λ c l. opened_keeps p d name s c t m lives);
     closes = close_channel_ways Same p d (λ k l. refl) (λ a. closed_keeps p (A0 d) s a t m lives);
     pends = tables_keep p s t m lives _ (pending_keeps_the_tables p d);
     fetches = λ _ _. tables_keep p s t m lives _ (fetch_keeps_the_tables p d s);

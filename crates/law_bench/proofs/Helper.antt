@@ -16,7 +16,6 @@ use Rattle.creating.specs.Create.{owner_found, created, job_registers, create}
 use Rattle.tree.specs.Tree.{climbs, in_tree, tree}
 use Rattle.emptying.specs.Each.{each}
 use Rattle.emptying.specs.Taken.{waits, woken, blanked, emptied, channel_goes, channels_of, taken}
-use Rattle.parting.specs.Parted.{handed, parted, goes_too, all_go, leaves_it, leaving}
 use Rattle.ending.specs.Ended.{returned, ended}
 use Rattle.ending.specs.Remove.{removal, force_remove}
 use Rattle.traps.specs.Traps.{trap_one, call_named}
@@ -28,7 +27,7 @@ use Rattle.manager.specs.Turn.{pick_picture}
 use Rattle.law_bench.specs.Table.{Helper}
 
 pub helper : Helper
-unfolding computed fresh clear lowest_clear free_position header fits chosen split placed longer longest with_bit without mask job_at answer meant longest_room has_position has_tag recorded counted entered owner_found created job_registers create goes freed absorbed joined run swept climbs in_tree tree each waits woken blanked emptied channel_goes channels_of taken returned handed parted goes_too all_go leaves_it leaving ended removal force_remove trap_one call_named checked called outcome with_members preferred chosen_below chosen_job accumulated_after turn_given picked picked_number picked_key set_each pick_picture
+unfolding computed fresh clear lowest_clear free_position header fits chosen split placed longer longest with_bit without mask job_at answer meant longest_room has_position has_tag recorded counted entered owner_found created job_registers create goes freed absorbed joined run swept climbs in_tree tree each waits woken blanked emptied channel_goes channels_of taken returned ended removal force_remove trap_one call_named checked called outcome with_members preferred chosen_below chosen_job accumulated_after turn_given picked picked_number picked_key set_each pick_picture
 helper = record {
   calls = ((refl, (refl, refl)), ((refl, (refl, refl)), ((refl, (refl, refl)), ((refl, (refl, refl)), tt))));
   desk_told = refl;

@@ -14,10 +14,10 @@ use Rattle.entering.specs.Entry.{has_position, has_tag, recorded, counted, enter
 use Rattle.creating.specs.Create.{owner_found, created, job_registers, create}
 use Rattle.effects.specs.Effects.{naming, prioritized}
 use Rattle.jobs.specs.Calls.{set_priority}
-use Rattle.opening.specs.Calls.{open_output, end_opened, open_channel}
+use Rattle.opening.specs.Calls.{open_channel}
 use Rattle.traps.specs.Traps.{trap_one, trap_two, call_named}
 use Rattle.manager.specs.Door.{checked, called}
-use Rattle.names.specs.Names.{key_of, good, letter, pipe, digit, number, numbered, named}
+use Rattle.names.specs.Names.{key_of, good, number_in, letter, pipe, digit, number, numbered, named}
 use Rattle.fresh.specs.Fresh.{fresh}
 use Rattle.turns.specs.Fields.{set_each}
 use Rattle.turns.specs.Pick.{preferred, chosen_below, chosen_job, accumulated_after, turn_given, picked, picked_number, picked_key}
@@ -27,7 +27,7 @@ use Rattle.law_bench.specs.Table.{picks, Table}
 use Rattle.law_bench.proofs.Helper.{helper}
 
 pub table : Table
-unfolding computed fresh clear lowest_clear free_position header fits chosen split placed longer longest with_bit job_at answer meant longest_room length_good room_registers taken take has_position has_tag recorded counted entered owner_found created job_registers create naming prioritized set_priority open_output end_opened open_channel trap_one trap_two call_named checked called key_of letter pipe digit number numbered good named outcome with_members set_up picks preferred chosen_below chosen_job accumulated_after turn_given picked picked_number picked_key set_each pick_answer pick_picture
+unfolding computed fresh clear lowest_clear free_position header fits chosen split placed longer longest with_bit job_at answer meant longest_room length_good room_registers taken take has_position has_tag recorded counted entered owner_found created job_registers create naming prioritized set_priority open_channel trap_one trap_two call_named checked called key_of number_in letter pipe digit number numbered good named outcome with_members set_up picks preferred chosen_below chosen_job accumulated_after turn_given picked picked_number picked_key set_each pick_answer pick_picture
 table = record {
   calls = ((refl, (refl, refl)), ((refl, (refl, refl)), ((refl, (refl, refl)), ((refl, (refl, refl)), ((refl, (refl, refl)), ((refl, (refl, refl)), ((refl, (refl, refl)), ((refl, (refl, refl)), ((refl, (refl, refl)), ((refl, (refl, refl)), ((refl, (refl, refl)), ((refl, (refl, refl)), tt))))))))))));
   picked = refl;

@@ -1,4 +1,4 @@
--- "Desk bench examples" (rules 131 to 134 and 136): the cases marked * in a single table, through the door, all from the fresh picture of the session
+-- "Desk bench examples" (rules 130 to 133 and 135): the cases marked * in a single table, through the door, all from the fresh picture of the session
 -- but for the picks, whose picture is set up by hand.
 use Rattle.std.specs.Prelude.{ℕ, zero, suc, ◌≡◌, true, List, [], ◌∷◌, ℤ}
 use Rattle.picture.specs.Keys.{done, invalid_job, out_of_memory, bad_name, bad_parameter}

@@ -17,7 +17,6 @@ use Rattle.picture.proofs.Members.{holds_low, members_same}
 use Rattle.sound_facts.proofs.Sound.{Sizes, Owned, Entries, Jobs_fine, Channels_fine, Current, Sound}
 use Rattle.sound_facts.proofs.Same.{used_same, live_same, Lives, EntriesSame, entries_same}
 use Rattle.sound_facts.proofs.Ages.{Ages, ages_same}
-use Rattle.ends.proofs.Ends.{EndsSame}
 use Rattle.sound_facts.proofs.Jobs.{JobsSame, jobs_kept, current_kept}
 use Rattle.sound_facts.proofs.Sizes.{Fixed, sizes_kept}
 
@@ -77,15 +76,7 @@ module _ (p q : List ℕ) (s : TablesSame p q) where
   pub channels_same : Channels_fine p → Channels_fine q
   channels_same C = record {
     entries = table_same Channels C.entries;
-    known = λ k h. rw (field_same Channels k ending_field (used_below q Channels k h) (omega arith)) (C.known k (sym (used_same p q Channels (mask_same Channels) k) ∙ h));
-  }
-
-  -- the ends of queues are the same
-  pub ends_same : EndsSame p q
-  ends_same = record {
-    used_as_was = used_same p q Channels (mask_same Channels);
-    bases = λ k u. base_same Channels k (used_below p Channels k u);
-    endings = λ k u. field_same Channels k ending_field (used_below p Channels k u) (omega arith);
+    one = λ k h. field_same Channels k ending_field (used_below q Channels k h) (omega arith) ∙ C.one k (sym (used_same p q Channels (mask_same Channels) k) ∙ h);
   }
 
   pub current_same : Current p → Current q

@@ -16,7 +16,7 @@ use Rattle.sound_matching.proofs.Matched.{Matched}
 use Rattle.sound_facts.proofs.Sound.{Sound}
 use Rattle.sound_facts.proofs.Same.{has_block_same}
 use Rattle.rooms.proofs.Sizes.{Lies}
-use Rattle.law_blocks.proofs.Tables.{TablesSame, mask_same, base_same, owner_same, lives_on, ends_same, sizes_same, jobs_same, channels_same, current_same}
+use Rattle.law_blocks.proofs.Tables.{TablesSame, mask_same, base_same, owner_same, lives_on, sizes_same, jobs_same, channels_same, current_same}
 use Rattle.law_blocks.proofs.Moved.{Fine}
 use Rattle.law_blocks.proofs.Change.{Change, change_tiled, change_standing, change_homes}
 use Rattle.law_blocks.proofs.Matching.{Still, Stands, Rematched, still_matched}
@@ -28,11 +28,11 @@ NoPair k i = ⊥
 module _ (p q : List ℕ) (a : Area) (New Goes : ℕ → Type 0) (S : Sound p) (lies : (b : Area) → Lies p b) (s : TablesSame p q) (C : Change p q a New Goes)
     (fine : (i : ℕ) → New i → Fine q a i) (no-entry : (t : Table) (i : ℕ) → New i → kind q i ≡ kind_of t → ⊥) (no-home : (t : Table) (i : ℕ) → Goes i → kind p i ≡ kind_of t → ⊥) where
   still : (t : Table) (k : ℕ) → k < positions t → has_block p t k ≡ true → Still p q t k
-  still t k l c = record { before = c; now_too = has_block_same p q t (mask_same p q s t) (ends_same p q s) k ∙ c; base_as_was = base_same p q s t k l; owner_as_was = owner_same p q s t k l }
+  still t k l c = record { before = c; now_too = has_block_same p q t (mask_same p q s t) k ∙ c; base_as_was = base_same p q s t k l; owner_as_was = owner_same p q s t k l }
 
   rematched : (t : Table) → Rematched p q t NoPair
   rematched t = record {
-    entries = λ k l c. inl (still t k l (sym (has_block_same p q t (mask_same p q s t) (ends_same p q s) k) ∙ c));
+    entries = λ k l c. inl (still t k l (sym (has_block_same p q t (mask_same p q s t) k) ∙ c));
     homes = λ k i h m o. ⊎_elim (λ b. b) (λ (g : (a ≡ area_of t) × Goes i). absurd (no-home t i g.1 o.sorts)) (change_homes p q a New Goes C lies S.tiled t i m o.sorts);
     standing = λ i m z. ⊎_elim inl (λ (n : (a ≡ area_of t) × New i). absurd (no-entry t i n.1 z)) (change_standing p q a New Goes C lies S.tiled t i m z);
     heirs = λ k i l b o. still t k l o.has;

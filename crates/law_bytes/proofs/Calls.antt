@@ -1,6 +1,6 @@
--- A call that is refused, or is no fetch and no send on the queue of a channel that lives through it, leaves the channel's bytes; and every call keeps the ends of queues.
+-- A call that is refused, or is no fetch and no send on a channel that lives through it, leaves the channel's bytes.
 use Prim.Native.Nat.{ℕ}
-use mathlib.Core.Path.{◌≡◌, refl}
+use mathlib.Core.Path.{◌≡◌, refl, sym}
 use mathlib.Core.Bool.{Bool, true, false, cond}
 use mathlib.Core.List.{List}
 use lib.ListN.{length}
@@ -16,16 +16,13 @@ use Rattle.calls.specs.Registers.{A0}
 use Rattle.calls.proofs.Call.{refusal_changes_nothing}
 use Rattle.manager.specs.Door.{checked, with_key, called}
 use Rattle.law_jobs.proofs.Kept.{information_is_steady, suspend_is_steady, release_is_steady, activate_is_steady, set_priority_is_steady}
-use Rattle.law_queues.specs.Lists.{bytes_at, SameQueue}
-use Rattle.law_queues.proofs.Ends.{EndsKept}
+use Rattle.law_queues.specs.Lists.{bytes_at}
 use Rattle.law_queues.proofs.Lists.{pending_leaves_every_queue, fetch_leaves_other_queues, send_leaves_other_queues}
-use Rattle.law_channels.proofs.Queues.{close_channel_keeps_the_bytes, close_channel_keeps_the_ends}
+use Rattle.law_channels.proofs.Queues.{close_channel_keeps_the_bytes}
 use Rattle.law_opening.proofs.Queues.{open_channel_leaves_every_queue}
-use Rattle.law_opening.proofs.Ends.{open_channel_keeps_the_ends}
 use Rattle.law_promises.proofs.Calls.{each_call}
 use Rattle.law_promises.proofs.Door.{checked_by}
 use Rattle.law_bytes.proofs.Kept.{steady_keeps_the_bytes, ask_keeps_the_bytes, longest_room_keeps_the_bytes, take_keeps_the_bytes, give_back_keeps_the_bytes, create_keeps_the_bytes, remove_keeps_the_bytes, force_remove_keeps_the_bytes}
-use Rattle.law_bytes.proofs.Ends.{ends_still, steady_keeps_the_ends, ask_keeps_the_ends, longest_room_keeps_the_ends, take_keeps_the_ends, give_back_keeps_the_ends, create_keeps_the_ends, remove_keeps_the_ends, force_remove_keeps_the_ends, pending_keeps_the_ends, fetch_keeps_the_ends, send_keeps_the_ends}
 
 module _ (t : ℕ) (p d name : List ℕ) (s : sound p ≡ true) (n : ℕ) (lives : live p Channels n ≡ true) where
   -- a call that is refused leaves the picture
@@ -38,8 +35,8 @@ module _ (t : ℕ) (p d name : List ℕ) (s : sound p ≡ true) (n : ℕ) (lives
       go true x = (refusal_changes_nothing (checked t name) p d x).0
       go false x = refl
 
-  -- a call that isn't a fetch or a send on the channel's queue
-  module _ (no-fetch : t ≡ 3 → word d 0 ≡ 0x1 → SameQueue p n (A0 d) → ⊥) (no-send : t ≡ 3 → word d 0 ≡ 0x5 → SameQueue p n (A0 d) → ⊥) where
+  -- a call that isn't a fetch or a send on the channel
+  module _ (no-fetch : t ≡ 3 → word d 0 ≡ 0x1 → A0 d ≡ n → ⊥) (no-send : t ≡ 3 → word d 0 ≡ 0x5 → A0 d ≡ n → ⊥) where
     abbrev Same : Outcome → Type 0
     Same o = live o.picture Channels n ≡ true → bytes_at o.picture n ≡ bytes_at p n
 
@@ -60,8 +57,8 @@ module _ (t : ℕ) (p d name : List ℕ) (s : sound p ≡ true) (n : ℕ) (lives
       opens = λ _. open_channel_leaves_every_queue p d name s n lives;
       closes = close_channel_keeps_the_bytes p d s n lives;
       pends = λ _. pending_leaves_every_queue p d n;
-      fetches = λ e c _. fetch_leaves_other_queues p d s n lives (no-fetch e c);
-      sends = λ e c _. send_leaves_other_queues p d s n lives (no-send e c);
+      fetches = λ e c _. fetch_leaves_other_queues p d s n lives (λ a. no-fetch e c (sym a));
+      sends = λ e c _. send_leaves_other_queues p d s n lives (λ a. no-send e c (sym a));
       refuses = λ _. refl;
     }))
 
@@ -72,38 +69,3 @@ module _ (t : ℕ) (p d name : List ℕ) (s : sound p ≡ true) (n : ℕ) (lives
         go : (b : Bool) → Same (cond b (with_key (outcome (checked t name) p d)) (refuse bad_parameter p d))
         go true = checked_keeps
         go false = λ _. refl
-
--- every call keeps the ends of queues
-module _ (t : ℕ) (p d name : List ℕ) (s : sound p ≡ true) where
-  abbrev Ends : Outcome → Type 0
-  Ends o = EndsKept p o.picture
-
-  checked_keeps_the_ends : Ends (outcome (checked t name) p d)
-  checked_keeps_the_ends = checked_by t p d name Ends (ends_still p) (ends_still p) (λ _ _. each_call Ends t p d name (record {
-    informs = steady_keeps_the_ends p _ (information_is_steady p d);
-    creates = create_keeps_the_ends p s d;
-    asks = ask_keeps_the_ends p s d;
-    removes = remove_keeps_the_ends p s d;
-    forces = force_remove_keeps_the_ends p s d;
-    measures = longest_room_keeps_the_ends p s d;
-    suspends = steady_keeps_the_ends p _ (suspend_is_steady p d s);
-    releases = steady_keeps_the_ends p _ (release_is_steady p d s);
-    activates = steady_keeps_the_ends p _ (activate_is_steady p d s);
-    prioritizes = λ _ _. steady_keeps_the_ends p _ (set_priority_is_steady p d s);
-    takes = take_keeps_the_ends p s d;
-    gives_back = give_back_keeps_the_ends p s d;
-    opens = open_channel_keeps_the_ends p d name s;
-    closes = close_channel_keeps_the_ends p d s;
-    pends = pending_keeps_the_ends p s d;
-    fetches = λ _ _. fetch_keeps_the_ends p s d;
-    sends = λ _ _. send_keeps_the_ends p s d;
-    refuses = ends_still p;
-  }))
-
-  pub call_keeps_the_ends : EndsKept p (called t p d name).picture
-  unfolding called
-  call_keeps_the_ends = go (eqb (length d) 8)
-    where
-      go : (b : Bool) → Ends (cond b (with_key (outcome (checked t name) p d)) (refuse bad_parameter p d))
-      go true = checked_keeps_the_ends
-      go false = ends_still p

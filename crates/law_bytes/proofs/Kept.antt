@@ -1,8 +1,9 @@
 -- Each call leaves the bytes of a channel that is live before and after it, where it is no fetch and no send on that channel:
--- the channel's record keeps its base and the room of its queue's block every longword.
+-- the channel's record keeps its base and its block every longword.
 use Prim.Native.Nat.{ℕ, ◌+◌}
-use mathlib.Core.Path.{◌≡◌, refl, sym, ◌∙◌}
+use mathlib.Core.Path.{◌≡◌, refl, sym, ◌∙◌, subst}
 use mathlib.Core.Bool.{true}
+use mathlib.Core.Logic.{⊎_elim}
 use mathlib.Core.List.{List}
 use native.Mathlib.Omega.{arith}
 use Rattle.words.proofs.Tests.{false_true}
@@ -11,14 +12,16 @@ use Rattle.picture.specs.Numbers.{position, live}
 use Rattle.picture.specs.declared.Table.TheVariants.{Jobs, Channels}
 use Rattle.picture.specs.declared.Area.TheVariants.{Heap}
 use Rattle.picture.proofs.Numbers.{live_is}
+use Rattle.blocks.specs.Header.{holder}
 use Rattle.sound.specs.Sound.{sound}
+use Rattle.sound_facts.proofs.View.{view}
 use Rattle.calls.specs.Outcome.{Outcome}
 use Rattle.calls.specs.Call.{outcome}
 use Rattle.law_steady.proofs.Steady.{Steady}
 use Rattle.law_blocks.proofs.Tables.{TablesSame, base_same}
 use Rattle.law_blocks.proofs.Intact.{Intact}
-use Rattle.ends.specs.Ends.{queue_of}
-use Rattle.closing.proofs.Found.{Held, live_queue, live_below}
+use Rattle.channels.specs.Effects.{queue_of}
+use Rattle.channels.proofs.Found.{Held, live_queue, live_below}
 use Rattle.law_queues.specs.Lists.{bytes_at}
 use Rattle.law_queues.proofs.Stays.{QueueStays, a_queue_that_stays_keeps_its_bytes, a_queue_is_a_block_in_use}
 use Rattle.creating.specs.Create.{create}
@@ -30,6 +33,7 @@ use Rattle.law_asking.proofs.Kept.{ask_leaves_the_picture}
 use Rattle.ending.specs.Ended.{ended}
 use Rattle.ending.specs.Remove.{remove, force_remove}
 use Rattle.law_ending.specs.Promise.{Member}
+use Rattle.law_ending.proofs.OfTheTree.{top_is_in_the_transient_area}
 use Rattle.law_ending.proofs.Promise.{ending_leaves_others, ending_takes_the_tree}
 use Rattle.law_ending.proofs.Calls.{of_remove, of_force_remove}
 
@@ -48,7 +52,7 @@ module _ (p : List ℕ) (s : sound p ≡ true) (n : ℕ) (lives : live p Channel
   pub steady_keeps_the_bytes : (q : List ℕ) → Steady p q → bytes_at q n ≡ bytes_at p n
   steady_keeps_the_bytes q S = stays q (record {
     same_base = S.after (slot Channels (position n) + base_field) (omega arith);
-    same_room = λ w a b. let l = H.low in S.after w (omega arith);
+    same_longwords = λ w a b. let l = H.low in S.after w (omega arith);
   })
 
   -- $2 and $6 leave the picture
@@ -61,7 +65,7 @@ module _ (p : List ℕ) (s : sound p ≡ true) (n : ℕ) (lives : live p Channel
 
   -- $18, $19 and $1 leave its record and its block
   tables_keep : (q : List ℕ) → TablesSame p q → Intact p q Heap (queue_of p (position n)) → bytes_at q n ≡ bytes_at p n
-  tables_keep q T I = stays q (record { same_base = base_same p q T Channels (position n) (live_below p n lives); same_room = λ w a b. I.same w (omega arith) b })
+  tables_keep q T I = stays q (record { same_base = base_same p q T Channels (position n) (live_below p n lives); same_longwords = I.same })
 
   pub take_keeps_the_bytes : (d : List ℕ) → bytes_at (outcome take p d).picture n ≡ bytes_at p n
   take_keeps_the_bytes d =
@@ -72,21 +76,27 @@ module _ (p : List ℕ) (s : sound p ≡ true) (n : ℕ) (lives : live p Channel
   give_back_keeps_the_bytes d =
       let u = a_queue_is_a_block_in_use p s n lives in
       tables_keep (outcome give_back p d).picture (give_back_keeps_the_tables p d s)
-      (give_back_keeps_every_block_that_is_not_plain p d s Heap (queue_of p (position n)) u.0 u.1 (λ e. let k = H.sorts in omega arith))
+      (give_back_keeps_every_block_that_is_not_plain p d s Heap (queue_of p (position n)) u.0 u.1 (λ e. let k = H.own.sorts in omega arith))
 
   pub create_keeps_the_bytes : (d : List ℕ) → bytes_at (outcome create p d).picture n ≡ bytes_at p n
   create_keeps_the_bytes d =
       let u = a_queue_is_a_block_in_use p s n lives in
       stays (outcome create p d).picture (record {
         same_base = create_keeps_every_channel p d s (position n) base_field (live_below p n lives) (omega arith);
-        same_room = λ w a b. (create_keeps_every_block_in_use p d s Heap (queue_of p (position n)) u.0 u.1).same w (omega arith) b;
+        same_longwords = (create_keeps_every_block_in_use p d s Heap (queue_of p (position n)) u.0 u.1).same;
       })
 
-  -- $4 and $5: a channel that is live after it was owned from outside the tree, and the room of every block keeps its longwords
+  -- $4 and $5: a channel that is live after it was owned from outside the tree, and so was its block
   ended_keeps : (t key : ℕ) → used p Jobs t ≡ true → (t ≡ 0 → ⊥) → Kept (ended p t key)
   ended_keeps t key u z l =
       let L = ending_leaves_others p t key s u z in
-      stays (ended p t key) (record { same_base = L.channels (position n) base_field in_use outside (omega arith); same_room = L.rooms Heap (queue_of p (position n)) H.there })
+      let b = a_queue_is_a_block_in_use p s n lives in
+      stays (ended p t key) (record {
+        same_base = L.channels (position n) base_field in_use outside (omega arith);
+        same_longwords = L.block_longwords Heap (queue_of p (position n)) b.0 b.1 (⊎_elim
+            (λ (M : Member p t (holder p (queue_of p (position n)))). outside (subst (Member p t) (sym H.own.held) M))
+            (λ e. top_is_in_the_transient_area p (view p s) t u z (queue_of p (position n)) b.0 e));
+      })
     where
       in_use : used p Channels (position n) ≡ true
       in_use = (live_is p Channels n lives).used

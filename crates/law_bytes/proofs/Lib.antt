@@ -1,6 +1,5 @@
 -- The order of bytes, proved.
 pub mod Kept
-pub mod Ends
 pub mod Calls
 pub mod Events
 pub mod Order

@@ -12,7 +12,7 @@ use Rattle.words.proofs.Tests.{false_true, both}
 use Rattle.words.proofs.Each.{all_at, all_by}
 use Rattle.picture.specs.Keys.{not_complete, invalid_job, channel_not_open, not_found, bad_name, bad_parameter}
 use Rattle.picture.specs.Records.{number, used}
-use Rattle.picture.specs.Numbers.{position, live, job_at}
+use Rattle.picture.specs.Numbers.{position, live, job_at, channel_at}
 use Rattle.picture.specs.declared.Table.TheVariants.{Jobs, Channels}
 use Rattle.picture.specs.declared.Area.TheVariants.{Heap, Transient}
 use Rattle.picture.proofs.Numbers.{live_is}
@@ -20,7 +20,7 @@ use Rattle.sound_areas.specs.Rules.{longest_queue}
 use Rattle.sound.specs.Sound.{sound}
 use Rattle.sound_facts.proofs.View.{view}
 use Rattle.calls.specs.Call.{Check, verdict}
-use Rattle.calls.specs.Found.{job_check, place_of_channel, job_position}
+use Rattle.calls.specs.Found.{job_check, channel_check, job_position}
 use Rattle.calls.specs.Registers.{D1, D2, D3, A0, A1, meant}
 use Rattle.calls.proofs.Found.{job_stands, channel_stands, job_that_passes_is_live, channel_that_passes_is_live}
 use Rattle.effects.specs.Effects.{low_byte}
@@ -29,7 +29,6 @@ use Rattle.law_owners.proofs.Members.{in_tree_says, in_tree_has}
 use Rattle.law_owners.proofs.Owners.{owners_in_order}
 use Rattle.names.specs.Names.{key_of, good, name_check, byte, pipe, digit, worth, numbered, named}
 use Rattle.names.specs.Names.{number as pipe-number}
-use Rattle.names.specs.declared.Name.{Name}
 use Rattle.names.specs.declared.Name.TheVariants.{Pipe, Foreign, Unnumbered, Bare}
 use Rattle.names.proofs.Digits.{digit_is}
 use Rattle.jobs.specs.Calls.{suspend, release, activate, set_priority}
@@ -37,39 +36,31 @@ use Rattle.asking.specs.Ask.{ask}
 use Rattle.creating.specs.Create.{create}
 use Rattle.ending.specs.Remove.{inactive, removal, remove, force_remove}
 use Rattle.memory.specs.Memory.{take, give_back}
-use Rattle.opening.specs.Calls.{open_output, open_input, end_opened, open_channel}
-use Rattle.ends.specs.Ends.{output_end, input_end, is_output}
-use Rattle.closing.specs.Calls.{close_channel}
-use Rattle.channels.specs.Calls.{at_end, to_read, pending, fetch, send}
+use Rattle.opening.specs.Calls.{open_channel}
+use Rattle.channels.specs.Effects.{queue_of}
+use Rattle.channels.specs.Calls.{queue_named, at_channel, close_channel, pending, fetch, send}
 use Rattle.law_ending.proofs.Refusal.{active_member, not_inactive}
-use Rattle.law_causes.specs.Faults.{PipeNumber, Fault, Wrong, outside_the_tree, job_zero, tree_active, not_pipe, other_character, number_outside}
-use Rattle.law_causes.specs.Reasons.{Reason, named_job, create_bytes, create_reasons, ask_reasons, force_remove_reasons, remove_reasons, suspend_reasons, release_reasons, activate_reasons, set_priority_reasons, take_bytes, take_reasons, give_back_reasons, input_reasons, output_bytes, output_reasons, open_reasons, close_reasons, end_reasons, fetch_reasons, send_reasons}
-use Rattle.law_causes.proofs.Matching.{Tells, Gives, gives_none, gives_more, gives_same, gives_two}
-use Rattle.law_causes.proofs.Tests.{tells_by, tells_job, tells_channel, tells_owner, tells_tag, tells_end, tells_gone, tells_empty, tells_full, tells_four, tells_position, tells_room, tells_active, tells_activity, tells_priority, tells_length, tells_plain, tells_immediate, tells_suspension, tells_activation}
+use Rattle.law_causes.specs.Faults.{PipeNumber, Fault, Wrong, outside_the_tree, job_zero, tree_active, not_pipe, bare_pipe, other_character, number_outside, timeout_not_zero}
+use Rattle.law_causes.specs.Reasons.{Reason, named_job, create_bytes, create_reasons, ask_reasons, force_remove_reasons, remove_reasons, suspend_reasons, release_reasons, activate_reasons, set_priority_reasons, take_bytes, take_reasons, give_back_reasons, open_bytes, open_reasons, close_reasons, fetch_reasons, send_reasons}
+use Rattle.law_causes.proofs.Matching.{Tells, Gives, gives_none, gives_more, gives_same}
+use Rattle.law_causes.proofs.Tests.{tells_by, tells_job, tells_channel, tells_owner, tells_tag, tells_empty, tells_full, tells_four, tells_position, tells_room, tells_active, tells_activity, tells_priority, tells_length, tells_plain, tells_immediate, tells_suspension, tells_activation}
 
--- the checks of an opening, one by one: with a name of four characters, and with any other
-bare_checks : List ℕ → List ℕ → List ℕ → List Check
-bare_checks s p d = job_check (job_at p (meant p (D1 d))) ∷ (pipe s, not_found) ∷ (open_input p d).checks
+-- a name's checks, one by one
+name_checks : List ℕ → List Check
+name_checks s = (pipe s, not_found) ∷ (not (eqb (length s) 4), bad_parameter) ∷ (eqb (byte s 4) 95, not_found) ∷ (pipe-number (drop 5 s), bad_name) ∷ []
 
-long_checks : List ℕ → List ℕ → List ℕ → List Check
-long_checks s p d = job_check (job_at p (meant p (D1 d))) ∷ (pipe s, not_found) ∷ (eqb (byte s 4) 95, not_found) ∷ (pipe-number (drop 5 s), bad_name) ∷ (open_output (worth 0 (drop 5 s)) p d).checks
-
-open_verdict : (s p d : List ℕ) (b : Bool) → eqb (length s) 4 ≡ b → verdict (open_channel s p d).checks ≡ verdict (cond b (bare_checks s p d) (long_checks s p d))
-unfolding open_channel named numbered good key_of end_opened bare_checks long_checks
-open_verdict s p d b e = rw e (go (job_check (job_at p (meant p (D1 d)))) (pipe s) b (eqb (byte s 4) 95) (pipe-number (drop 5 s)) (worth 0 (drop 5 s)))
+name_verdict : (s : List ℕ) (l : List Check) → verdict (name_check (named s) ∷ l) ≡ verdict (name_checks s ++ l)
+unfolding named numbered good key_of name_checks
+name_verdict s l = go (pipe s) (eqb (length s) 4) (eqb (byte s 4) 95) (pipe-number (drop 5 s)) (worth 0 (drop 5 s))
   where
-    name : Bool → Bool → Bool → Bool → ℕ → Name
-    name a b c n w = cond a (cond b Bare (cond c (cond n (Pipe w) Unnumbered) Foreign)) Foreign
-
-    go : (j : Check) (a b c n : Bool) (w : ℕ) →
-        verdict (j ∷ name_check (name a b c n w) ∷ (end_opened (name a b c n w) p d).checks)
-        ≡ verdict (cond b (j ∷ (a, not_found) ∷ (open_input p d).checks) (j ∷ (a, not_found) ∷ (c, not_found) ∷ (n, bad_name) ∷ (open_output w p d).checks))
-    go j true true c n w = refl
-    go j true false true true w = refl
-    go j true false true false w = refl
-    go j true false false n w = refl
-    go j false true c n w = refl
-    go j false false c n w = refl
+    go : (a b c n : Bool) (w : ℕ) →
+        cond (good (cond a (cond b Bare (cond c (cond n (Pipe w) Unnumbered) Foreign)) Foreign)) (verdict l) (key_of (cond a (cond b Bare (cond c (cond n (Pipe w) Unnumbered) Foreign)) Foreign))
+        ≡ cond a (cond (not b) (cond c (cond n (verdict l) bad_name) not_found) bad_parameter) not_found
+    go true true c n w = refl
+    go true false true true w = refl
+    go true false true false w = refl
+    go true false false n w = refl
+    go false b c n w = refl
 
 -- "1 to 5 digits worth 1 to 32,766"
 number_says : (l : List ℕ) → pipe-number l ≡ true → PipeNumber l
@@ -94,6 +85,9 @@ module _ (p d s : List ℕ) (h : sound p ≡ true) where
 
   stands : (job_check (job_at p n1)).0 ≡ true → job_position p d ≡ position n1
   stands e = job_stands p n1 (job_that_passes_is_live p n1 e)
+
+  channel_there : (channel_check (channel_at p (A0 d))).0 ≡ true → queue_named p d ≡ queue_of p (position (A0 d))
+  channel_there e = ap (queue_of p) (channel_stands p (A0 d) (channel_that_passes_is_live p (A0 d) e))
 
   -- $2
   tells_outside : live p Jobs (D2 d) ≡ true → live p Jobs n1 ≡ true → Tells (W (outside_the_tree (D2 d) n1)) (in_tree p (position (D2 d)) (position n1), invalid_job) invalid_job
@@ -169,62 +163,42 @@ module _ (p d s : List ℕ) (h : sound p ≡ true) where
   give_back_gives = gives_more W _ _ _ _ (tells_plain p d s (A0 d)) (λ _. gives_none W)
 
   -- trap 2
-  tells_pipe : Tells (W not_pipe) (pipe s, not_found) not_found
-  tells_pipe = tells_by (W not_pipe) (pipe s) not_found (λ e. e) (λ e w. false_true (sym w ∙ e))
-
-  input_gives : Gives W (bare_checks s p d) (input_reasons p d s)
-  unfolding bare_checks open_input is_output
-  input_gives = gives_more W _ _ _ _ (tells_job p d s h n1) (λ _.
-      gives_more W _ _ _ _ tells_pipe (λ _.
-      gives_two W _ _ _ _ _
-      (λ e. let f = (tells_channel p d s h (D3 d)).fails e in ((λ N _. f.0 N), f.1))
-      (λ a. let l = channel_that_passes_is_live p (D3 d) a in rw (channel_stands p (D3 d) l) (tells_end p d s h (D3 d) l output_end channel_not_open)) (λ _ _.
-      gives_more W _ _ _ _ (tells_position p d s Channels channel_not_open) (λ _.
-      gives_more W _ _ _ _ (tells_tag p d s h Channels channel_not_open) (λ _. gives_none W)))))
-
-  output_gives : Gives W (long_checks s p d) (output_reasons p d s)
-  unfolding long_checks open_output
-  output_gives = gives_more W _ _ _ _ (tells_job p d s h n1) (λ _.
-      gives_more W _ _ _ _ tells_pipe (λ _.
+  name_gives : (l : List Check) (m : List Reason) → Gives W l m
+      → Gives W (name_check (named s) ∷ l) ((not_pipe, not_found) ∷ (bare_pipe, bad_parameter) ∷ (other_character, not_found) ∷ (number_outside, bad_name) ∷ m)
+  unfolding name_checks
+  name_gives l m G = gives_same W _ (name_checks s ++ l) _ (name_verdict s l)
+      (gives_more W _ _ _ _ (tells_by (W not_pipe) (pipe s) not_found (λ e. e) (λ e w. false_true (sym w ∙ e))) (λ _.
+      gives_more W _ _ _ _ (tells_by (W bare_pipe) (not (eqb (length s) 4)) bad_parameter (λ e. eqb-true (length s) 4 (not-false _ e)) (λ e w. eqb-false (length s) 4 (not-true _ e) w)) (λ _.
       gives_more W _ _ _ _ (tells_by (W other_character) (eqb (byte s 4) 95) not_found (eqb-false (byte s 4) 95) (λ e w. w (eqb-true (byte s 4) 95 e))) (λ _.
-      gives_more W _ _ _ _ (tells_by (W number_outside) (pipe-number (drop 5 s)) bad_name (λ e P. false_true (sym e ∙ says_number (drop 5 s) P)) (λ e w. w (number_says (drop 5 s) e))) (λ _.
-      gives_more W _ _ _ _ (tells_position p d s Channels channel_not_open) (λ _.
-      gives_more W _ _ _ _ (tells_tag p d s h Channels channel_not_open) (λ _.
-      gives_more W _ _ _ _ (tells_room p d s Heap (output_bytes p d s)) (λ _. gives_none W)))))))
+      gives_more W _ _ _ _ (tells_by (W number_outside) (pipe-number (drop 5 s)) bad_name (λ e P. false_true (sym e ∙ says_number (drop 5 s) P)) (λ e w. w (number_says (drop 5 s) e))) (λ _. G)))))
 
   pub open_gives : Gives W (open_channel s p d).checks (open_reasons p d s)
-  open_gives = go (eqb (length s) 4) refl
-    where
-      go : (b : Bool) → eqb (length s) 4 ≡ b → Gives W (open_channel s p d).checks (cond b (input_reasons p d s) (output_reasons p d s))
-      go true e = gives_same W _ _ _ (open_verdict s p d true e) input_gives
-      go false e = gives_same W _ _ _ (open_verdict s p d false e) output_gives
+  unfolding open_channel
+  open_gives = gives_more W _ _ _ _ (tells_job p d s h n1) (λ _.
+      name_gives _ _
+      (gives_more W _ _ _ _ (tells_position p d s Channels channel_not_open) (λ _.
+      gives_more W _ _ _ _ (tells_tag p d s h Channels channel_not_open) (λ _.
+      gives_more W _ _ _ _ (tells_room p d s Heap (open_bytes p d s)) (λ _. gives_none W)))))
 
   pub close_gives : Gives W (close_channel p d).checks (close_reasons p d s)
   unfolding close_channel
   close_gives = gives_more W _ _ _ _ (tells_channel p d s h (A0 d)) (λ _. gives_none W)
 
   -- trap 3
-  end_gives : (e : ℕ) (l : List Check) (m : List Reason) → (live p Channels (A0 d) ≡ true → place_of_channel p (A0 d) ≡ position (A0 d) → Gives W l m)
-      → Gives W (at_end e p d l) (end_reasons p d s e ++ m)
-  end_gives e l m G = gives_more W _ _ _ _ (tells_channel p d s h (A0 d)) (λ a.
-      let v = channel_that_passes_is_live p (A0 d) a in
-      let z = channel_stands p (A0 d) v in
-      gives_more W _ _ _ _ (rw z (tells_end p d s h (A0 d) v e bad_parameter)) (λ _.
-      gives_more W _ _ _ _ (tells_immediate p d s) (λ _. G v z)))
-
-  to_read_gives : Gives W (at_end input_end p d (to_read p d)) (fetch_reasons p d s)
-  to_read_gives = end_gives input_end _ _ (λ l z.
-      gives_more W _ _ _ _ (rw z (tells_gone p d s h (A0 d) l)) (λ _.
-      gives_more W _ _ _ _ (rw z (tells_empty p d s h (A0 d) l)) (λ _. gives_none W)))
+  channel_gives : (c : Check) (r : Reason) → (live p Channels (A0 d) ≡ true → queue_named p d ≡ queue_of p (position (A0 d)) → Tells (W r.0) c r.1)
+      → Gives W (at_channel p d c) (close_reasons p d s ++ ((timeout_not_zero (low_word (D3 d)), bad_parameter) ∷ r ∷ []))
+  channel_gives c r T = gives_more W _ _ _ _ (tells_channel p d s h (A0 d)) (λ a.
+      gives_more W _ _ _ _ (tells_immediate p d s) (λ _.
+      gives_more W _ _ _ _ (T (channel_that_passes_is_live p (A0 d) a) (channel_there a)) (λ _. gives_none W)))
 
   pub pending_gives : Gives W (pending p d).checks (fetch_reasons p d s)
   unfolding pending
-  pending_gives = to_read_gives
+  pending_gives = channel_gives _ _ (λ l e. rw e (tells_empty p d s h (A0 d) l))
 
   pub fetch_gives : Gives W (fetch p d).checks (fetch_reasons p d s)
   unfolding fetch
-  fetch_gives = to_read_gives
+  fetch_gives = channel_gives _ _ (λ l e. rw e (tells_empty p d s h (A0 d) l))
 
   pub send_gives : Gives W (send p d).checks (send_reasons p d s)
   unfolding send
-  send_gives = end_gives output_end _ _ (λ l z. gives_more W _ _ _ _ (rw z (tells_full p d s h (A0 d) l)) (λ _. gives_none W))
+  send_gives = channel_gives _ _ (λ l e. rw e (tells_full p d s h (A0 d) l))

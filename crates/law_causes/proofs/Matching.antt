@@ -4,7 +4,6 @@ use mathlib.Core.Bool.{Bool, true, false, cond}
 use mathlib.Core.List.{List, [], ◌∷◌, ◌++◌}
 use mathlib.Core.Logic.{◌⊎◌, inl, inr}
 use lib.IntN.{ℤ}
-use Rattle.words.proofs.Tests.{false_true}
 use Rattle.picture.specs.Keys.{done}
 use Rattle.calls.specs.Call.{Check, verdict}
 use Rattle.law_causes.specs.Faults.{Fault}
@@ -41,14 +40,6 @@ module _ (W : Fault → Type 0) where
   -- checks with the same verdict give the same
   pub gives_same : (l j : List Check) (m : List Reason) → verdict l ≡ verdict j → Gives j m → Gives l m
   gives_same l j m e G = record { because = λ k z. G.because k (sym e ∙ z); key = λ k z. e ∙ G.key k z }
-
-  -- two checks for one fault: the first fails only where it is there, and where the first passes the second tells it
-  pub gives_two : (c e : Check) (r : Reason) (l : List Check) (m : List Reason) → (c.0 ≡ false → W r.0 × (c.1 ≡ r.1)) → (c.0 ≡ true → Tells (W r.0) e r.1) → (c.0 ≡ true → e.0 ≡ true → Gives l m) → Gives (c ∷ e ∷ l) (r ∷ m)
-  gives_two c e r l m f T G = go c.0 refl
-    where
-      go : (b : Bool) → c.0 ≡ b → Gives (c ∷ e ∷ l) (r ∷ m)
-      go true q = gives_same (c ∷ e ∷ l) (e ∷ l) (r ∷ m) (rw q) (gives_more e r l m (T q) (G q))
-      go false q = gives_more c r (e ∷ l) m (record { fails = f; passes = λ t. absurd (false_true (sym q ∙ t)) }) (λ t. absurd (false_true (sym q ∙ t)))
 
   module _ (k : ℤ) where
     -- where none of the first faults is there, the key is the one that the others give

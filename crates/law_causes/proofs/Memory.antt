@@ -1,17 +1,15 @@
--- -3 exactly: of the reasons of the door and of all calls, only that for room in $1, $18 and the opening of an output has that key.
+-- -3 exactly: of the reasons of the door and of all calls, only that for room in $1, $18 and the opening of a channel has that key.
 use Prim.Native.Nat.{ℕ}
 use mathlib.Core.Path.{◌≡◌, refl, sym, ◌∙◌, subst}
-use mathlib.Core.Bool.{Bool, true, false, cond}
+use mathlib.Core.Bool.{Bool, true, false}
 use mathlib.Core.List.{List, [], ◌∷◌, ◌++◌}
 use mathlib.Core.Logic.{⊎_elim, inl, by_cases}
 use native.Mathlib.Omega.{arith}
 use native.Mathlib.Decide.{ℕ_discrete}
 use lib.ListN.{length}
-use lib.Dec.{eqb}
-use borrow.Author.Tests.{eqb-false, ne_eqb}
 use Rattle.words.specs.Words.{word}
 use Rattle.words.proofs.Tests.{false_true}
-use Rattle.picture.specs.Keys.{done, not_complete, invalid_job, out_of_memory, channel_not_open, not_found, end_of_file, bad_name, bad_parameter, not_sound}
+use Rattle.picture.specs.Keys.{done, not_complete, invalid_job, out_of_memory, channel_not_open, not_found, bad_name, bad_parameter, not_sound}
 use Rattle.picture.specs.declared.Area.{Area}
 use Rattle.picture.specs.declared.Area.TheVariants.{Heap, Transient}
 use Rattle.sound.specs.Sound.{sound}
@@ -20,7 +18,7 @@ use Rattle.traps.specs.Traps.{among}
 use Rattle.traps.proofs.Among.{among_by}
 use Rattle.manager.specs.Door.{called}
 use Rattle.law_causes.specs.Faults.{Fault, Wrong, no_block_long_enough}
-use Rattle.law_causes.specs.Reasons.{Reason, Because, NoneOf, reasons_one, reasons_two, reasons_three, unknown_reasons, trap_reasons, call_reasons, door_reasons, create_before, create_bytes, take_before, take_bytes, input_reasons, output_before, output_bytes, output_reasons, ask_reasons, remove_reasons, force_remove_reasons, suspend_reasons, release_reasons, activate_reasons, set_priority_reasons, give_back_reasons, close_reasons, fetch_reasons, send_reasons}
+use Rattle.law_causes.specs.Reasons.{Reason, Because, NoneOf, reasons_one, reasons_two, reasons_three, unknown_reasons, trap_reasons, call_reasons, door_reasons, create_before, create_bytes, take_before, take_bytes, open_before, open_bytes, ask_reasons, remove_reasons, force_remove_reasons, suspend_reasons, release_reasons, activate_reasons, set_priority_reasons, give_back_reasons, close_reasons, fetch_reasons, send_reasons}
 use Rattle.law_causes.specs.Memory.{Asks, creating, taking, opening, OutOfMemory, OutOfMemoryExactly}
 use Rattle.law_causes.proofs.Matching.{NoKey, because_behind, behind_because, no_key_no_because}
 use Rattle.law_causes.proofs.Causes.{key_only_for_its_cause}
@@ -38,9 +36,6 @@ not_6 = keys_differ out_of_memory channel_not_open (λ e. omega arith)
 not_7 : out_of_memory ≡ not_found → ⊥
 not_7 = keys_differ out_of_memory not_found (λ e. omega arith)
 
-not_10 : out_of_memory ≡ end_of_file → ⊥
-not_10 = keys_differ out_of_memory end_of_file (λ e. omega arith)
-
 not_12 : out_of_memory ≡ bad_name → ⊥
 not_12 = keys_differ out_of_memory bad_name (λ e. omega arith)
 
@@ -53,7 +48,7 @@ not_16 = keys_differ out_of_memory not_sound (λ e. omega arith)
 not_0 : out_of_memory ≡ done → ⊥
 not_0 = keys_differ out_of_memory done (λ e. omega arith)
 
-ruleset others = (not_1, not_2, not_6, not_7, not_10, not_12, not_15, not_16)
+ruleset others = (not_1, not_2, not_6, not_7, not_12, not_15, not_16)
 
 module _ (p d s : List ℕ) where
   abbrev W : Fault → Type 0
@@ -117,14 +112,9 @@ module _ (p d s : List ℕ) where
   )
       (unknown 1)
 
-  -- bare PIPE never gives that key
-  opens : word d 0 ≡ 0x1 → (b : Bool) → eqb (length s) 4 ≡ b → Then 2 (cond b (input_reasons p d s) (output_reasons p d s))
-  opens e true l = never 2 (input_reasons p d s) (search others depth 12)
-  opens e false l = room 2 Heap (output_bytes p d s) (output_before p d s) (opening e (eqb-false (length s) 4 l)) (search others depth 12)
-
   two : Then 2 (among (word d 0) (reasons_two p d s) (unknown_reasons p d s))
   two = among_by (Then 2) (word d 0) (reasons_two p d s) (unknown_reasons p d s) (
-    (λ e. opens e (eqb (length s) 4) refl),
+    (λ e. room 2 Heap (open_bytes p d s) (open_before p d s) (opening e) (search others depth 12)),
     ((λ _. never 2 (close_reasons p d s) (search others depth 12)), tt),
   )
       (unknown 2)
@@ -150,7 +140,7 @@ module _ (p d s : List ℕ) where
   asked : (trap : ℕ) (a : Area) (n : ℕ) (l : List Reason) → Asks p d s trap a n l → call_reasons p d s trap ≡ l ++ ((no_block_long_enough a n, out_of_memory) ∷ [])
   asked trap a n l (creating e) = rw e
   asked trap a n l (taking e) = rw e
-  asked trap a n l (opening e f) = rw (e, ne_eqb (length s) 4 f)
+  asked trap a n l (opening e) = rw e
 
 pub out_of_memory_exactly : OutOfMemoryExactly
 out_of_memory_exactly trap p d s = (to, back)

@@ -1,7 +1,7 @@
 -- Each test of a check tells the fault that stands for it in the words of the rules; of a sound picture, where the words need one.
 use Prim.Native.Nat.{ℕ, zero, suc, ◌+◌, ◌-◌, ◌^◌, ◌≤◌, ◌<◌}
 use mathlib.Core.Path.{◌≡◌, refl, sym, ap, ◌∙◌, subst}
-use mathlib.Core.Bool.{Bool, true, false, not, cond, ◌&&◌, ◌||◌}
+use mathlib.Core.Bool.{Bool, true, false, not, cond, ◌&&◌}
 use mathlib.Core.List.{List, [], ◌∷◌}
 use mathlib.Core.Logic.{⊎_elim, ◌⊎◌, inl, inr}
 use native.Mathlib.Omega.{arith}
@@ -14,11 +14,11 @@ use mir.Val.{to_z}
 use mir.ValLaws.{to_z_pos, to_z-neg}
 use Rattle.words.specs.Words.{word, low_word}
 use Rattle.words.specs.Each.{any}
-use Rattle.words.proofs.Tests.{lt_or_ge, false_true, both, either}
+use Rattle.words.proofs.Tests.{lt_or_ge, false_true, both}
 use Rattle.words.proofs.Each.{any_some, some_any}
-use Rattle.picture.specs.Keys.{not_complete, invalid_job, out_of_memory, channel_not_open, end_of_file, bad_parameter}
+use Rattle.picture.specs.Keys.{not_complete, invalid_job, out_of_memory, channel_not_open, bad_parameter}
 use Rattle.picture.specs.Layout.{positions, last_word, greatest_tag, greatest_priority, greatest_timeout}
-use Rattle.picture.specs.Records.{number, priority, base, ending, used, active, members}
+use Rattle.picture.specs.Records.{number, priority, used, active, members}
 use Rattle.picture.specs.Numbers.{position, live, job_at, channel_at, free_position}
 use Rattle.picture.specs.declared.Table.{Table}
 use Rattle.picture.specs.declared.Table.TheVariants.{Jobs, Channels}
@@ -27,7 +27,7 @@ use Rattle.picture.specs.declared.Area.TheVariants.{Heap}
 use Rattle.picture.specs.declared.JobFound.TheVariants as job
 use Rattle.picture.specs.declared.ChannelFound.TheVariants as channel
 use Rattle.picture.proofs.Numbers.{live_is, is_live}
-use Rattle.picture.proofs.Records.{used_is, used_below}
+use Rattle.picture.proofs.Records.{used_is}
 use Rattle.masks.specs.Masks.{lowest_clear}
 use Rattle.masks.proofs.Lowest.{lowest_clear_is}
 use Rattle.blocks.specs.Header.{kind, free, plain_kind, queue_length, queue_count}
@@ -50,12 +50,10 @@ use Rattle.memory.specs.Memory.{length_good, plain_room, is_plain_room}
 use Rattle.queues.specs.Ring.{waits, full, contents, listed, index}
 use Rattle.queues.specs.Bytes.{byte_at}
 use Rattle.queues.proofs.Ring.{waits_tells}
-use Rattle.ends.specs.Ends.{output_end, queue_of, is_output, output_of, has_output}
-use Rattle.ends.proofs.Ends.{some_none, some_one, output_is, is_output_of}
-use Rattle.channels.specs.Effects.{immediate}
-use Rattle.closing.proofs.Found.{live_queue}
+use Rattle.channels.specs.Effects.{queue_of, immediate}
+use Rattle.channels.proofs.Found.{live_queue}
 use Rattle.calls.specs.Registers.{D3}
-use Rattle.law_causes.specs.Faults.{Names, Suspending, Activating, Fault, Wrong, not_live, owner_not_live, below_four, positions_used_up, tags_used_up, no_block_long_enough, job_active, priority_outside, suspension_outside, activation_outside, length_outside, no_plain_block, wrong_end, timeout_not_zero, output_gone, queue_empty, queue_full}
+use Rattle.law_causes.specs.Faults.{Names, Suspending, Activating, Fault, Wrong, not_live, owner_not_live, below_four, positions_used_up, tags_used_up, no_block_long_enough, job_active, priority_outside, suspension_outside, activation_outside, length_outside, no_plain_block, timeout_not_zero, queue_empty, queue_full}
 use Rattle.law_causes.proofs.Matching.{Tells}
 
 -- a queue's list has as many bytes as its count says
@@ -67,11 +65,6 @@ listed_length f (suc c) = let e = listed_length f c in let z = length-append (li
 one_fails : (a b : Bool) → a && b ≡ false → (a ≡ false) ⊎ (b ≡ false)
 one_fails true b e = inr e
 one_fails false b e = inl refl
-
--- of two tests of which one is enough, both fail
-neither : (a b : Bool) → a || b ≡ false → (a ≡ false) × (b ≡ false)
-neither true b e = absurd (false_true (sym e))
-neither false b e = (refl, e)
 
 -- a test and what it tells
 pub tells_by : (wrong : Type 0) (b : Bool) (k : ℤ) → (b ≡ false → wrong) → (b ≡ true → wrong → ⊥) → Tells wrong (b, k) k
@@ -85,14 +78,10 @@ module _ (p d s : List ℕ) where
     S : Sound p
     S = view p h
 
-    -- the entry that a number names stands at the number's position
-    named_at : (t : Table) (n : ℕ) (N : Names p t n) → position n ≡ N.at
-    named_at t n N = sym (ap position N.holds) ∙ (entries_of p S t).place N.at N.in_use
-
     -- a number is live exactly where it names an entry
     pub names_live : (t : Table) (n : ℕ) → Names p t n → live p t n ≡ true
     names_live t n N =
-        let e = named_at t n N in
+        let e : position n ≡ N.at = sym (ap position N.holds) ∙ (entries_of p S t).place N.at N.in_use in
         is_live p t n (record { used = ap (used p t) e ∙ N.in_use; names = ap (number p t) e ∙ N.holds })
 
     pub live_names : (t : Table) (n : ℕ) → live p t n ≡ true → Names p t n
@@ -127,27 +116,8 @@ module _ (p d s : List ℕ) where
         (λ e. let l = ltb-false (word p (last_word t)) greatest_tag e in omega arith)
         (λ e w. let l = ltb-true (word p (last_word t)) greatest_tag e in omega arith)
 
-    -- a live channel and its queue
+    -- the queue of a live channel
     module _ (n : ℕ) (l : live p Channels n ≡ true) where
-      pub tells_end : (e : ℕ) (k : ℤ) → Tells (W (wrong_end e n)) (eqb (ending p (position n)) e, k) k
-      unfolding live_names
-      tells_end e k = tells_by (W (wrong_end e n)) (eqb (ending p (position n)) e) k
-          (λ f N z. eqb-false (ending p (position n)) e f (ap (ending p) (named_at Channels n N) ∙ z))
-          (λ t w. w (live_names Channels n l) (eqb-true (ending p (position n)) e t))
-
-      pub tells_gone : Tells (W (output_gone n)) (waits p (queue_of p (position n)) || has_output p (base p Channels (position n)), end_of_file) end_of_file
-      unfolding has_output is_output
-      tells_gone =
-          let b = base p Channels (position n) in
-          let w = waits_tells p (queue_of p (position n)) in
-          tells_by (W (output_gone n)) (waits p (queue_of p (position n)) || has_output p b) end_of_file
-          (λ e. let f = neither (waits p (queue_of p (position n))) (has_output p b) e in
-          (w.0 f.0, λ k u z o. some_none (output_of p b) (positions Channels) f.1 k (used_below p Channels k u) (is_output_of p b k u z (eq-eqb (ending p k) output_end o))))
-          (λ e v. ⊎_elim (λ x. w.1 x v.0) (λ x.
-          let s = some_one (output_of p b) (positions Channels) x in
-          let o = output_is p b s.0 s.1.1 in
-          v.1 s.0 o.0 o.1.0 (eqb-true (ending p s.0) output_end o.1.1)) (either (waits p (queue_of p (position n))) (has_output p b) e))
-
       pub tells_empty : Tells (W (queue_empty n)) (waits p (queue_of p (position n)), not_complete) not_complete
       tells_empty = let w = waits_tells p (queue_of p (position n)) in tells_by (W (queue_empty n)) (waits p (queue_of p (position n))) not_complete w.0 w.1
 

@@ -3,10 +3,10 @@ use Rattle.std.specs.Prelude.{ℕ, ◌≤◌, ◌<◌, ◌≡◌, true, false, �
 use Rattle.words.specs.Words.{word}
 use Rattle.words.specs.Each.{In}
 use Rattle.picture.specs.Layout.{nobody, last_word, greatest_tag, greatest_priority, greatest_timeout, positions}
-use Rattle.picture.specs.Records.{number, priority, base, ending, used}
+use Rattle.picture.specs.Records.{number, priority, used}
 use Rattle.picture.specs.Numbers.{position}
 use Rattle.picture.specs.declared.Table.{Table}
-use Rattle.picture.specs.declared.Table.TheVariants.{Jobs, Channels}
+use Rattle.picture.specs.declared.Table.TheVariants.{Jobs}
 use Rattle.picture.specs.declared.Area.{Area}
 use Rattle.picture.specs.declared.Area.TheVariants.{Heap}
 use Rattle.blocks.specs.Header.{size, kind, free, plain_kind, queue_length}
@@ -17,8 +17,8 @@ use Rattle.calls.specs.Registers.{caller}
 use Rattle.rooms.specs.Room.{first_byte}
 use Rattle.law_owners.specs.Under.{Under}
 use Rattle.names.specs.Names.{byte, pipe, worth}
-use Rattle.ends.specs.Ends.{output_end, queue_of}
-use Rattle.law_queues.specs.Lists.{queue_base, bytes_at}
+use Rattle.channels.specs.Effects.{queue_of}
+use Rattle.law_queues.specs.Lists.{bytes_at}
 use Rattle.law_ending.specs.Promise.{ActiveMember}
 
 -- the number n names an entry of the table: a position in use has that number
@@ -64,11 +64,10 @@ pub data Fault : Type 0 where
   length_outside : ℕ → Fault
   no_plain_block : ℕ → Fault
   not_pipe : Fault
+  bare_pipe : Fault
   other_character : Fault
   number_outside : Fault
-  wrong_end : ℕ → ℕ → Fault
   timeout_not_zero : ℕ → Fault
-  output_gone : ℕ → Fault
   queue_empty : ℕ → Fault
   queue_full : ℕ → Fault
 
@@ -112,17 +111,14 @@ Wrong p d s (activation_outside w n) = Activating w n → ⊥
 Wrong p d s (length_outside n) = (n ≡ 0) ⊎ (0x8000_0000 ≤ n)
 -- $19: "A0 is the first byte after a plain block's header"
 Wrong p d s (no_plain_block a) = (i : ℕ) → In i (blocks p Heap) → kind p i ≡ plain_kind → first_byte i ≡ a → ⊥
--- "name isn't PIPE", "PIPE and then a character other than _"
+-- "name isn't PIPE", "bare PIPE", "PIPE and then a character other than _"
 Wrong p d s not_pipe = pipe s ≡ false
+Wrong p d s bare_pipe = length s ≡ 4
 Wrong p d s other_character = byte s 4 ≡ 95 → ⊥
 -- "PIPE_ followed by anything but 1 to 5 digits worth 1 to 32,766"
 Wrong p d s number_outside = PipeNumber (drop 5 s) → ⊥
--- "a D3 that isn't an output", "the wrong end": n names no channel whose last longword is e
-Wrong p d s (wrong_end e n) = (N : Names p Channels n) → ending p N.at ≡ e → ⊥
 -- trap 3: "D3's low word 0"
 Wrong p d s (timeout_not_zero w) = w ≡ 0 → ⊥
--- "they read what remains and then get -10": the queue is empty, and no live channel is its output
-Wrong p d s (output_gone n) = (bytes_at p n ≡ []) × ((k : ℕ) → used p Channels k ≡ true → base p Channels k ≡ queue_base p n → ending p k ≡ output_end → ⊥)
 -- "queue full on send or empty on fetch or pending"
 Wrong p d s (queue_empty n) = bytes_at p n ≡ []
 Wrong p d s (queue_full n) = length (bytes_at p n) ≡ queue_length p (queue_of p (position n))

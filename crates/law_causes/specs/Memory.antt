@@ -12,13 +12,13 @@ use Rattle.sound.specs.Sound.{sound}
 use Rattle.calls.specs.Registers.{caller}
 use Rattle.manager.specs.Door.{called}
 use Rattle.law_causes.specs.Faults.{Wrong}
-use Rattle.law_causes.specs.Reasons.{Reason, NoneOf, create_before, create_bytes, take_before, take_bytes, output_before, output_bytes}
+use Rattle.law_causes.specs.Reasons.{Reason, NoneOf, create_before, create_bytes, take_before, take_bytes, open_before, open_bytes}
 
--- The call is $1, $18 or the opening of an output: it asks for so many bytes, header and all, in that area, once these faults are not there. The name of an output isn't four characters long, as bare PIPE is.
+-- The call is $1, $18 or the opening of a channel: it asks for so many bytes, header and all, in that area, once these faults are not there.
 pub data Asks (p d s : List ℕ) : ℕ → Area → ℕ → List Reason → Type 0 where
   creating : word d 0 ≡ 0x1 → Asks p d s 1 Transient (create_bytes p d s) (create_before p d s)
   taking : word d 0 ≡ 0x18 → Asks p d s 1 Heap (take_bytes p d s) (take_before p d s)
-  opening : word d 0 ≡ 0x1 → (length s ≡ 4 → ⊥) → Asks p d s 2 Heap (output_bytes p d s) (output_before p d s)
+  opening : word d 0 ≡ 0x1 → Asks p d s 2 Heap (open_bytes p d s) (open_before p d s)
 
 -- Registers, picture and current job pass, the call asks for room, its checks before that pass, and every free block of the area is shorter.
 pub record OutOfMemory (trap : ℕ) (p d s : List ℕ) : Type 0 where

@@ -1,17 +1,16 @@
 -- "Each key is given only for its cause" (rule 62): what can be wrong with each call, in the order of its checks, and the key of each.
-use Rattle.std.specs.Prelude.{ℕ, ◌+◌, ◌≡◌, cond, List, [], ◌∷◌, ◌++◌, ◌⊎◌, ℤ, length, drop, eqb}
+use Rattle.std.specs.Prelude.{ℕ, ◌+◌, ◌≡◌, List, [], ◌∷◌, ◌++◌, ◌⊎◌, ℤ}
 use Rattle.words.specs.Words.{word, low_word}
-use Rattle.picture.specs.Keys.{done, not_complete, invalid_job, out_of_memory, channel_not_open, not_found, end_of_file, bad_name, bad_parameter, not_sound}
+use Rattle.picture.specs.Keys.{done, not_complete, invalid_job, out_of_memory, channel_not_open, not_found, bad_name, bad_parameter, not_sound}
 use Rattle.picture.specs.declared.Table.TheVariants.{Jobs, Channels}
 use Rattle.picture.specs.declared.Area.{Area}
 use Rattle.picture.specs.declared.Area.TheVariants.{Heap, Transient}
 use Rattle.blocks.specs.Header.{rounded}
 use Rattle.calls.specs.Registers.{D1, D2, D3, A0, A1, meant}
 use Rattle.effects.specs.Effects.{low_byte}
-use Rattle.names.specs.Names.{worth}
-use Rattle.ends.specs.Ends.{output_end, input_end}
+use Rattle.names.specs.Names.{named, number_in}
 use Rattle.traps.specs.Traps.{among}
-use Rattle.law_causes.specs.Faults.{Fault, registers_not_eight, picture_not_sound, nobody_current, unknown_call, not_live, owner_not_live, below_four, positions_used_up, tags_used_up, no_block_long_enough, outside_the_tree, job_zero, tree_active, job_active, priority_outside, suspension_outside, activation_outside, length_outside, no_plain_block, not_pipe, other_character, number_outside, wrong_end, timeout_not_zero, output_gone, queue_empty, queue_full}
+use Rattle.law_causes.specs.Faults.{Fault, registers_not_eight, picture_not_sound, nobody_current, unknown_call, not_live, owner_not_live, below_four, positions_used_up, tags_used_up, no_block_long_enough, outside_the_tree, job_zero, tree_active, job_active, priority_outside, suspension_outside, activation_outside, length_outside, no_plain_block, not_pipe, bare_pipe, other_character, number_outside, timeout_not_zero, queue_empty, queue_full}
 
 -- a fault and its key
 abbrev pub Reason : Type 0
@@ -92,50 +91,33 @@ module _ (p d s : List ℕ) where
   abbrev pub give_back_reasons : List Reason
   give_back_reasons = (no_plain_block (A0 d), bad_parameter) ∷ []
 
-  -- trap 2 $1 with a name of four characters: "the name PIPE with no length, D3 the number of a live output channel"
-  abbrev pub input_reasons : List Reason
-  input_reasons =
+  -- trap 2 $1, before room, and the bytes that it asks for where the name is PIPE_n: 32 + n, "rounded up to 16"
+  abbrev pub open_before : List Reason
+  open_before =
       (not_live Jobs named_job, invalid_job) ∷
       (not_pipe, not_found) ∷
-      (wrong_end output_end (D3 d), channel_not_open) ∷
-      (positions_used_up Channels, channel_not_open) ∷
-      (tags_used_up Channels, channel_not_open) ∷ []
-
-  -- with any other name, before room, and the bytes that it asks for where the name is PIPE_n: 32 + n, "rounded up to 16"
-  abbrev pub output_before : List Reason
-  output_before =
-      (not_live Jobs named_job, invalid_job) ∷
-      (not_pipe, not_found) ∷
+      (bare_pipe, bad_parameter) ∷
       (other_character, not_found) ∷
       (number_outside, bad_name) ∷
       (positions_used_up Channels, channel_not_open) ∷
       (tags_used_up Channels, channel_not_open) ∷ []
 
-  abbrev pub output_bytes : ℕ
-  output_bytes = rounded (32 + worth 0 (drop 5 s))
-
-  abbrev pub output_reasons : List Reason
-  output_reasons = output_before ++ no_room Heap output_bytes
+  abbrev pub open_bytes : ℕ
+  open_bytes = rounded (32 + number_in (named s))
 
   abbrev pub open_reasons : List Reason
-  open_reasons = cond (eqb (length s) 4) input_reasons output_reasons
+  open_reasons = open_before ++ no_room Heap open_bytes
 
   -- trap 2 $2
   abbrev pub close_reasons : List Reason
   close_reasons = (not_live Channels (A0 d), channel_not_open) ∷ []
 
-  -- trap 3, before the queue: a call for the ends e; then $0 and $1, and $5
-  abbrev pub end_reasons : ℕ → List Reason
-  end_reasons e =
-      (not_live Channels (A0 d), channel_not_open) ∷
-      (wrong_end e (A0 d), bad_parameter) ∷
-      (timeout_not_zero (low_word (D3 d)), bad_parameter) ∷ []
-
+  -- trap 3: $0 and $1, and $5
   abbrev pub fetch_reasons : List Reason
-  fetch_reasons = end_reasons input_end ++ ((output_gone (A0 d), end_of_file) ∷ (queue_empty (A0 d), not_complete) ∷ [])
+  fetch_reasons = close_reasons ++ ((timeout_not_zero (low_word (D3 d)), bad_parameter) ∷ (queue_empty (A0 d), not_complete) ∷ [])
 
   abbrev pub send_reasons : List Reason
-  send_reasons = end_reasons output_end ++ ((queue_full (A0 d), not_complete) ∷ [])
+  send_reasons = close_reasons ++ ((timeout_not_zero (low_word (D3 d)), bad_parameter) ∷ (queue_full (A0 d), not_complete) ∷ [])
 
   -- the tables of calls
   abbrev pub reasons_one : List (ℕ × List Reason)

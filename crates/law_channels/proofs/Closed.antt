@@ -1,19 +1,19 @@
--- The last end of a queue closed in a sound picture: the entry and its block are gone, all else stands.
+-- A channel closed in a sound picture: the entry and its block are gone, all else stands.
 use Prim.Native.Nat.{ℕ, ◌+◌, ◌-◌, ◌*◌, ◌/◌, ◌≤◌, ◌<◌}
 use mathlib.Core.Path.{◌≡◌, refl, sym, ap, ◌∙◌, subst}
 use mathlib.Core.Bool.{Bool, true, false, ◌&&◌}
 use mathlib.Core.Logic.{⊎_elim, ◌⊎◌, inl, inr}
 use mathlib.Core.List.{List}
 use lib.ListN.{length}
-use lib.Dec.{leb, eqb}
+use lib.Dec.{leb}
 use native.Mathlib.Omega.{arith}
-use borrow.Author.Tests.{ne_eqb, eqb-true}
+use borrow.Author.Tests.{ne_eqb}
 use Rattle.words.specs.Words.{word}
 use Rattle.words.specs.Bits.{bit}
 use Rattle.words.specs.Each.{In}
-use Rattle.words.proofs.Tests.{both, either, false_true, lt_or_ge}
+use Rattle.words.proofs.Tests.{both, false_true, lt_or_ge}
 use Rattle.picture.specs.Layout.{heap_base, heap_word, size_word, last_word, positions, width, from, upto, first_record, current_word}
-use Rattle.picture.specs.Records.{slot, field, number, owner, base, ending, used, number_field, owner_field, base_field, ending_field, members}
+use Rattle.picture.specs.Records.{slot, field, number, owner, base, ending, used, number_field, owner_field, ending_field, members}
 use Rattle.picture.specs.Numbers.{tag, position, live}
 use Rattle.picture.specs.declared.Table.{Table}
 use Rattle.picture.specs.declared.Table.TheVariants.{Jobs, Channels}
@@ -25,24 +25,18 @@ use Rattle.picture.proofs.Members.{Spares, holds_low, spares_past, spares_size, 
 use Rattle.blocks.specs.Header.{kind_field, kind, kind_of, queue_kind, free}
 use Rattle.blocks.specs.Walk.{starts, blocks}
 use Rattle.headers.specs.Header.{Outside}
-use Rattle.ends.specs.Ends.{queue_of, is_output, leads}
-use Rattle.ends.proofs.Ends.{leads_used, leads_carried, some_end_leads}
-use Rattle.sound_matching.specs.Match.{first, area_of, ordinary, has_block}
+use Rattle.sound_matching.specs.Match.{first, area_of, has_block}
 use Rattle.sound_matching.proofs.Counts.{Matches}
 use Rattle.sound_matching.proofs.Matched.{Matched}
 use Rattle.masks.specs.Masks.{without_bit}
-use Rattle.masks.proofs.Masks.{with_bit_at, without_bit_here, without_bit_other}
+use Rattle.masks.proofs.Masks.{without_bit_here, without_bit_other}
 use Rattle.freeing.specs.Sweep.{goes, swept}
 use Rattle.law_freeing.specs.Swept.{Swept}
-use Rattle.law_freeing.proofs.Alone.{no_bit, the_block_at_a_goes}
-use Rattle.parting.specs.Parted.{all_go}
-use Rattle.law_parting.proofs.Leaving.{each_goes}
+use Rattle.law_freeing.proofs.Alone.{the_block_at_a_goes}
 use Rattle.sound.specs.Sound.{sound}
 use Rattle.sound_facts.proofs.Sound.{Sizes, Owned, Entries, Jobs_fine, Channels_fine, Sound}
-use Rattle.sound_matching.proofs.Entries.{ordinary_is_used, has_block_used}
-use Rattle.sound_matching.proofs.Ruled.{leader_matches}
-use Rattle.sound_facts.proofs.View.{view}
-use Rattle.sound_facts.proofs.Same.{used_same, ordinary_same, Lives, owned_kept, starts_between}
+use Rattle.sound_facts.proofs.View.{view, sound_again, has_block_used}
+use Rattle.sound_facts.proofs.Same.{used_same, has_block_same, Lives, owned_kept, starts_between}
 use Rattle.sound_facts.proofs.Ages.{Ages}
 use Rattle.sound_facts.proofs.Jobs.{JobsSame, jobs_live, jobs_age, jobs_kept, current_kept}
 use Rattle.sound_facts.proofs.Sizes.{Fixed, sizes_kept}
@@ -52,15 +46,11 @@ use Rattle.law_blocks.proofs.Change.{Change, from_same, upto_same, change_then, 
 use Rattle.law_blocks.proofs.Placing.{None, Only}
 use Rattle.law_blocks.proofs.Freeing.{swept_facts, giving_back_keeps_the_tables, giving_back_is_a_change}
 use Rattle.law_blocks.proofs.Matching.{Still, Stands, Rematched, still_matched}
-use Rattle.closing.specs.Effects.{forgotten, without_queue, alone}
-use Rattle.closing.proofs.Found.{Held, live_queue, live_below}
+use Rattle.channels.specs.Effects.{queue_of, forgotten, closed}
+use Rattle.channels.proofs.Found.{Held, live_queue, live_below}
 use Rattle.law_channels.proofs.Forgotten.{Forgotten, forgotten_is}
 
--- the set of a position alone
-pub alone_is : (k j : ℕ) → bit (alone k) j ≡ true → j ≡ k
-alone_is k j b = ⊎_elim (λ e. eqb-true j k e) (λ e. absurd (false_true (sym (no_bit j) ∙ e))) (either (eqb j k) (bit 0 j) (sym (with_bit_at 0 k j) ∙ b))
-
-module _ (p : List ℕ) (n : ℕ) (s : sound p ≡ true) (l : live p Channels n ≡ true) (last : all_go p (alone (position n)) (base p Channels (position n)) ≡ true) where
+module _ (p : List ℕ) (n : ℕ) (s : sound p ≡ true) (l : live p Channels n ≡ true) where
   S : Sound p
   S = view p s
 
@@ -77,23 +67,13 @@ module _ (p : List ℕ) (n : ℕ) (s : sound p ≡ true) (l : live p Channels n 
   r = swept p (from p Heap) (upto p Heap) 0 (queue_of p (position n))
 
   abbrev q : List ℕ
-  q = without_queue p (position n)
+  q = closed p (position n)
 
   H : Held p k at
   H = live_queue p n s l
 
   there : k < positions Channels
   there = live_below p n l
-
-  -- it has its queue to itself, and so leads it
-  pub only_end : (j : ℕ) → used p Channels j ≡ true → base p Channels j ≡ base p Channels k → j ≡ k
-  only_end j u e = alone_is k j (each_goes p (alone k) (base p Channels k) j last u e)
-
-  own : Matches p Channels k at
-  own =
-      let e = some_end_leads p k (live_is p Channels n l).used in
-      let z = only_end e.0 (leads_used p e.0 e.1.0) e.1.1 in
-      (leader_matches p (S.matched Channels) k at (subst (λ (j : ℕ). leads p j ≡ true) z e.1.0) H.place).1
 
   -- first the block
   block_tables : TablesSame p r
@@ -104,7 +84,7 @@ module _ (p : List ℕ) (n : ℕ) (s : sound p ≡ true) (l : live p Channels n 
 
   -- then the entry
   F : Forgotten r q Channels k
-  unfolding without_queue
+  unfolding closed
   F = forgotten_is r Channels k there whole
 
   areas : (j : ℕ) → heap_base ≤ j → word q j ≡ word r j
@@ -144,7 +124,7 @@ module _ (p : List ℕ) (n : ℕ) (s : sound p ≡ true) (l : live p Channels n 
   pub used_gone : used q Channels k ≡ false
   used_gone = used_is q Channels k there ∙ ap (λ (x : ℕ). bit x k) mask_here ∙ without_bit_here (members p Channels) k
 
-  pub used_other : (j : ℕ) → j < positions Channels → (j ≡ k → ⊥) → used q Channels j ≡ used p Channels j
+  used_other : (j : ℕ) → j < positions Channels → (j ≡ k → ⊥) → used q Channels j ≡ used p Channels j
   used_other j a m = used_is q Channels j a ∙ ap (λ (x : ℕ). bit x j) mask_here ∙ without_bit_other (members p Channels) k j m ∙ sym (used_is p Channels j a)
 
   still_old : (j : ℕ) → used q Channels j ≡ true → (j ≡ k → ⊥) × (used p Channels j ≡ true)
@@ -153,7 +133,7 @@ module _ (p : List ℕ) (n : ℕ) (s : sound p ≡ true) (l : live p Channels n 
       (m, sym (used_other j (used_below q Channels j u) m) ∙ u)
 
   entries : Entries q Channels
-  unfolding ordinary
+  unfolding has_block
   entries =
       let E = S.channels.entries in
       let w = low (last_word Channels) (omega arith) (spares_last Channels Channels) in
@@ -161,7 +141,7 @@ module _ (p : List ℕ) (n : ℕ) (s : sound p ≡ true) (l : live p Channels n 
       record {
         unused = λ j f a b u. unused_now j f a b u;
         place = λ j u. rw (num j u) (E.place j (still_old j u).1);
-        tagged = λ j c. let u = ordinary_is_used q Channels j c in rw (num j u) (E.tagged j (rw ((both (leb (first Channels) j) (used q Channels j) c).0, (still_old j u).1)));
+        tagged = λ j c. let u = has_block_used q Channels j c in rw (num j u) (E.tagged j (rw ((both (leb (first Channels) j) (used q Channels j) c).0, (still_old j u).1)));
         once = λ i j u v e. E.once i j (still_old i u).1 (still_old j v).1 (rw (num i u, num j v) at e);
         owned = λ j u. rw (field_old j owner_field (used_below q Channels j u) (omega arith) (still_old j u).0) (owned_kept p q false (owner p Channels j) lives (E.owned j (still_old j u).1));
         given = λ j u. rw (num j u, w) (E.given j (still_old j u).1);
@@ -179,50 +159,27 @@ module _ (p : List ℕ) (n : ℕ) (s : sound p ≡ true) (l : live p Channels n 
           go (inr x) (inr y) = let e : j ≡ k = omega arith in rw e (F.its_fields f b)
 
   channels : Channels_fine q
-  channels = record { entries = entries; known = λ j u. rw (field_old j ending_field (used_below q Channels j u) (omega arith) (still_old j u).0) (S.channels.known j (still_old j u).1) }
+  channels = record { entries = entries; one = λ j u. field_old j ending_field (used_below q Channels j u) (omega arith) (still_old j u).0 ∙ S.channels.one j (still_old j u).1 }
 
   -- entries and blocks
   abbrev NoPair : ℕ → ℕ → Type 0
   NoPair j i = ⊥
 
   job_has_block : (j : ℕ) → has_block q Jobs j ≡ has_block p Jobs j
-  unfolding has_block
-  job_has_block j = ordinary_same p q Jobs jobs_same.mask j
+  job_has_block j = has_block_same p q Jobs jobs_same.mask j
 
   still_job : (j : ℕ) → j < positions Jobs → has_block p Jobs j ≡ true → Still p q Jobs j
   still_job j a c = record { before = c; now_too = job_has_block j ∙ c; base_as_was = jobs_same.fields j 2 a (omega arith); owner_as_was = jobs_same.fields j 1 a (omega arith) }
 
-  -- the ends of other queues are as they were
-  same_output : (j : ℕ) → used q Channels j ≡ true → is_output q j ≡ is_output p j
-  unfolding is_output
-  same_output j u = rw (field_old j ending_field (used_below q Channels j u) (omega arith) (still_old j u).0)
-
-  same_base : (j : ℕ) → used q Channels j ≡ true → base q Channels j ≡ base p Channels j
-  same_base j u = field_old j base_field (used_below q Channels j u) (omega arith) (still_old j u).0
-
-  still_leads : (j : ℕ) → (j ≡ k → ⊥) → leads p j ≡ true → leads q j ≡ true
-  still_leads j m h =
-      let u : used q Channels j ≡ true = used_other j (used_below p Channels j (leads_used p j h)) m ∙ leads_used p j h in
-      leads_carried p q j h u (same_output j u) (λ i v e. ((still_old i v).1, (sym (same_base i v) ∙ e ∙ same_base j u, same_output i v)))
-
-  led_before : (j : ℕ) → leads q j ≡ true → leads p j ≡ true
-  led_before j h =
-      let u = leads_used q j h in
-      let w = still_old j u in
-      leads_carried q p j h w.1 (sym (same_output j u)) (λ i v e.
-      let m : i ≡ k → ⊥ = λ z. w.0 (only_end j w.1 (sym e ∙ ap (base p Channels) z)) in
-      let x : used q Channels i ≡ true = used_other i (used_below p Channels i v) m ∙ v in
-      (x, (same_base i x ∙ e ∙ sym (same_base j u), sym (same_output i x))))
-
   has_block_back : (j : ℕ) → has_block q Channels j ≡ true → has_block p Channels j ≡ true
   unfolding has_block
-  has_block_back j c = led_before j c
+  has_block_back j c = rw ((both (leb (first Channels) j) (used q Channels j) c).0, (still_old j (has_block_used q Channels j c)).1)
 
   still_channel : (j : ℕ) → j < positions Channels → (j ≡ k → ⊥) → has_block p Channels j ≡ true → Still p q Channels j
   unfolding has_block
   still_channel j a m c = record {
     before = c;
-    now_too = still_leads j m c;
+    now_too = rw ((both (leb (first Channels) j) (used p Channels j) c).0, used_other j a m ∙ has_block_used p Channels j c);
     base_as_was = field_old j 2 a (omega arith) m;
     owner_as_was = field_old j 1 a (omega arith) m;
   }
@@ -263,15 +220,15 @@ module _ (p : List ℕ) (n : ℕ) (s : sound p ≡ true) (l : live p Channels n 
     where
       -- only the channel that is closed has that block
       sole : (j i : ℕ) → j < positions Channels → i ≡ at → Matches p Channels j i → j ≡ k
-      sole j i a e o = (S.matched Channels).apart j k at a there H.there (subst (Matches p Channels j) e o) own
+      sole j i a e o = (S.matched Channels).apart j k at a there H.there (subst (Matches p Channels j) e o) H.own
 
       gone_by : (j i : ℕ) → j ≡ k → Stands p q Channels i → Matches p Channels j i → ⊥
       gone_by j i e b o =
-          let x : i ≡ at = let u = o.place in let v = H.place in let w : base p Channels j ≡ base p Channels k = ap (base p Channels) e in omega arith in
+          let x : i ≡ at = let u = o.place in let v = H.own.place in let w : base p Channels j ≡ base p Channels k = ap (base p Channels) e in omega arith in
           gone (subst (λ (y : ℕ). In y (blocks q Heap)) x b.now_too) (subst (λ (y : ℕ). kind q y ≡ queue_kind) x (b.kind_as_was ∙ o.sorts))
 
-  pub without_queue_sound : Sound (without_queue p (position n))
-  without_queue_sound = record {
+  pub closed_sound : sound (closed p (position n)) ≡ true
+  closed_sound = sound_again q (record {
     sizes = sizes_kept p q (F.long ∙ block_tables.long) (λ i (x : Fixed i). let l = x.low in low i (omega arith) (x.spared Channels))
         (elim [ Jobs ↦ rw jobs_same.last (S.sizes.last Jobs) | Channels ↦ rw (low (last_word Channels) (omega arith) (spares_last Channels Channels)) (S.sizes.last Channels) ])
         S.sizes;
@@ -280,11 +237,11 @@ module _ (p : List ℕ) (n : ℕ) (s : sound p ≡ true) (l : live p Channels n 
     tiled = change_tiled p q Heap None (Only at) closed_change lies S.tiled lives (λ i x. absurd x);
     matched = λ t. still_matched p q t NoPair (rematched t) (S.matched t);
     current = current_kept p q jobs_same S.current;
-  }
+  })
 
-  pub without_queue_ages : (t : Table) → Ages p (without_queue p (position n)) t
-  without_queue_ages Jobs = jobs_age p q jobs_same
-  without_queue_ages Channels = record {
+  pub closed_ages : (t : Table) → Ages p (closed p (position n)) t
+  closed_ages Jobs = jobs_age p q jobs_same
+  closed_ages Channels = record {
     rises = rw (low (last_word Channels) (omega arith) (spares_last Channels Channels)) (omega arith);
     newer = λ m h.
         let v = live_is q Channels m h in

@@ -17,7 +17,7 @@ use Rattle.headers.specs.Header.{Outside}
 use Rattle.law_areas.proofs.Clear.{clear_other, clear_zeros}
 use Rattle.masks.specs.Masks.{without_bit}
 use Rattle.law_entering.proofs.Written.{Places, places}
-use Rattle.closing.specs.Effects.{forgotten}
+use Rattle.channels.specs.Effects.{forgotten}
 
 -- q is p without the entry at position k of the table t
 pub record Forgotten (p q : List ℕ) (t : Table) (k : ℕ) : Type 0 where

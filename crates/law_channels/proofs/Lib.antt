@@ -1,6 +1,5 @@
--- Laws of closing a channel.
+-- What opening and closing a channel keep.
 pub mod Forgotten
 pub mod Closed
-pub mod Parted
 pub mod Close
 pub mod Queues

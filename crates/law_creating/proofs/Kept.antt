@@ -22,8 +22,7 @@ use Rattle.picture.proofs.Records.{used_below}
 use Rattle.picture.proofs.Numbers.{Live, live_is}
 use Rattle.blocks.specs.Header.{kind, kind_of, job_kind}
 use Rattle.blocks.specs.Walk.{blocks}
-use Rattle.ends.proofs.Ends.{EndsSame}
-use Rattle.sound_matching.specs.Match.{first, area_of, ordinary, has_block}
+use Rattle.sound_matching.specs.Match.{first, area_of, has_block}
 use Rattle.sound_matching.proofs.Counts.{Matches}
 use Rattle.sound_matching.proofs.Matched.{Matched}
 use Rattle.headers.proofs.Header.{same_or_not}
@@ -32,8 +31,7 @@ use Rattle.picture.proofs.Timeout.{Timely, timely_zero, timeout_same, timeout_ze
 use Rattle.picture.proofs.Members.{spares_current}
 use Rattle.sound.specs.Sound.{sound}
 use Rattle.sound_facts.proofs.Sound.{Sizes, Waits, Owned, Entries, Jobs_fine, Channels_fine, Current, Sound}
-use Rattle.sound_matching.proofs.Entries.{has_block_used}
-use Rattle.sound_facts.proofs.View.{sound_again}
+use Rattle.sound_facts.proofs.View.{sound_again, has_block_used}
 use Rattle.sound_facts.proofs.Same.{used_same, has_block_same, Lives, EntriesSame, entries_same}
 use Rattle.sound_facts.proofs.Ages.{Ages, ages_still}
 use Rattle.sound_facts.proofs.Sizes.{Fixed, sizes_kept}
@@ -153,7 +151,7 @@ module _ (p d : List ℕ) (h : sound p ≡ true) (c : Checked p d) where
           inr (omega arith))
           (the.owner_nobody_or_live p d h c))
 
-  pub channel_mask : members q Channels ≡ members p Channels
+  channel_mask : members q Channels ≡ members p Channels
   channel_mask = other_table_mask p q Jobs k (next_tag p Jobs) o (header_byte at) E there vacant Channels no_job
 
   pub channel_field : (j f : ℕ) → j < positions Channels → f < width Channels → field q Channels j f ≡ field p Channels j f
@@ -174,7 +172,7 @@ module _ (p d : List ℕ) (h : sound p ≡ true) (c : Checked p d) where
             lives
             (λ j f l m v. channel_field j f l m ∙ C.entries.unused j f l m (sym (u j) ∙ v))
             C.entries;
-        known = λ j v. rw (channel_field j ending_field (used_below q Channels j v) (omega arith)) (C.known j (sym (u j) ∙ v));
+        one = λ j v. channel_field j ending_field (used_below q Channels j v) (omega arith) ∙ C.one j (sym (u j) ∙ v);
       }
 
   current : Current q
@@ -200,15 +198,8 @@ module _ (p d : List ℕ) (h : sound p ≡ true) (c : Checked p d) where
   abbrev Pair : Table → ℕ → ℕ → Type 0
   Pair t j x = (t ≡ Jobs) × ((j ≡ k) × (x ≡ at))
 
-  ends : EndsSame p q
-  ends = record {
-    used_as_was = used_same p q Channels channel_mask;
-    bases = λ j u. channel_field j base_field (used_below p Channels j u) (omega arith);
-    endings = λ j u. channel_field j ending_field (used_below p Channels j u) (omega arith);
-  }
-
   still : (t : Table) (j : ℕ) → j < positions t → has_block p t j ≡ true → Still p q t j
-  unfolding has_block ordinary
+  unfolding has_block
   still Jobs j l x =
       let u = has_block_used p Jobs j x in
       let n = apart j u in
@@ -218,22 +209,22 @@ module _ (p d : List ℕ) (h : sound p ≡ true) (c : Checked p d) where
         base_as_was = old j base_field l (omega arith) n;
         owner_as_was = old j owner_field l (omega arith) n;
       }
-  still Channels j l x = record { before = x; now_too = has_block_same p q Channels channel_mask ends j ∙ x; base_as_was = channel_field j base_field l (omega arith); owner_as_was = channel_field j owner_field l (omega arith) }
+  still Channels j l x = record { before = x; now_too = has_block_same p q Channels channel_mask j ∙ x; base_as_was = channel_field j base_field l (omega arith); owner_as_was = channel_field j owner_field l (omega arith) }
 
   entries_by : (t : Table) (j : ℕ) → j < positions t → has_block q t j ≡ true → Still p q t j ⊎ ((i : ℕ) × Pair t j i)
-  unfolding has_block ordinary
+  unfolding has_block
   entries_by Jobs j l x = ⊎_elim
       (λ (e : j ≡ k). inr (at, (refl, (e, refl))))
       (λ (v : (j ≡ k → ⊥) × (used p Jobs j ≡ true)). inl (still Jobs j l (rw ((both (leb (first Jobs) j) (used q Jobs j) x).0, v.1))))
       (cases j (has_block_used q Jobs j x))
-  entries_by Channels j l x = inl (still Channels j l (sym (has_block_same p q Channels channel_mask ends j) ∙ x))
+  entries_by Channels j l x = inl (still Channels j l (sym (has_block_same p q Channels channel_mask j) ∙ x))
 
   new_block : (t : Table) (i : ℕ) → (Transient ≡ area_of t) × (i ≡ at) → (j : ℕ) × Pair t j i
   new_block Jobs i e = (k, (refl, (refl, e.1)))
   new_block Channels i e = absurd (elsewhere e.0)
 
   pair : Matches q Jobs k at
-  unfolding has_block ordinary
+  unfolding has_block
   pair = record {
     has = rw (le-leb 1 k (let n = not_zero in omega arith), used_here p q Jobs k (next_tag p Jobs) o (header_byte at) E there vacant);
     sorts = the.at_kind p d h c;

@@ -1,4 +1,4 @@
--- A worked example: job 2 owns job 3, which owns job 1, a queue, and the output of another queue; job 4, outside the tree, waits for job 3 and reads that other queue.
+-- A worked example: job 2 owns job 3, which owns job 1 and a queue; job 4, outside the tree, waits for job 3.
 use Prim.Native.Nat.{ℕ}
 use mathlib.Core.Path.{◌≡◌, refl}
 use mathlib.Core.Bool.{true}
@@ -18,27 +18,24 @@ use Rattle.masks.specs.Masks.{with_bit, without, mask}
 use Rattle.tree.specs.Tree.{climbs, in_tree, tree}
 use Rattle.emptying.specs.Each.{each}
 use Rattle.emptying.specs.Taken.{waits, woken, blanked, emptied, channel_goes, channels_of, taken}
-use Rattle.ends.specs.Ends.{is_output, end_of, comes_before, none_ahead, foremost, leads}
-use Rattle.parting.specs.Parted.{handed, parted, goes_too, all_go, leaves_it, leaving}
 use Rattle.ending.specs.Ended.{returned, ended}
 
 tables : List ℕ → List ℕ
 tables p =
-    sets (sets (sets (sets (sets (sets (sets p 0 (1024 ∷ 0 ∷ 4 ∷ 3 ∷ 256 ∷ 31 ∷ 7 ∷ 0 ∷ []))
+    sets (sets (sets (sets (sets (sets (sets p 0 (1024 ∷ 0 ∷ 4 ∷ 1 ∷ 256 ∷ 31 ∷ 1 ∷ 0 ∷ []))
     8 (0 ∷ nobody ∷ 0 ∷ 32 ∷ []))
     16 (196609 ∷ 131075 ∷ 2720 ∷ []))
     24 (65538 ∷ nobody ∷ 2592 ∷ []))
     32 (131075 ∷ 65538 ∷ 2656 ∷ []))
     40 (262148 ∷ 0 ∷ 2784 ∷ 5 ∷ 0 ∷ bits without_end ∷ 131075 ∷ 0 ∷ []))
-    264 (65536 ∷ 131075 ∷ 1600 ∷ 1 ∷ 131073 ∷ 131075 ∷ 1664 ∷ 1 ∷ 196610 ∷ 262148 ∷ 1664 ∷ 2 ∷ [])
+    264 (65536 ∷ 131075 ∷ 1600 ∷ 1 ∷ [])
 
 heap : List ℕ → List ℕ
 heap p =
-    sets (sets (sets (sets (sets p 392 (32 ∷ 1 ∷ 196609 ∷ 0 ∷ 11 ∷ []))
+    sets (sets (sets (sets p 392 (32 ∷ 1 ∷ 196609 ∷ 0 ∷ 11 ∷ []))
     400 (48 ∷ 2 ∷ 131075 ∷ 0 ∷ 9 ∷ 0 ∷ 0 ∷ 0 ∷ []))
     412 (16 ∷ 1 ∷ 262148 ∷ 0 ∷ []))
-    416 (48 ∷ 2 ∷ 131075 ∷ 0 ∷ 9 ∷ 0 ∷ 2 ∷ 0 ∷ 1094844416 ∷ []))
-    428 (880 ∷ [])
+    416 (928 ∷ [])
 
 transient : List ℕ → List ℕ
 transient p =
@@ -51,19 +48,17 @@ transient p =
 before : List ℕ
 before = transient (heap (tables (replicate 1024 0)))
 
--- jobs 0 and 4 are left, with the queue that job 4 reads, which is now job 4's, and its two bytes; 11 and 9 are old bytes
+-- jobs 0 and 4 are left; 11 and 9 are old bytes
 after : List ℕ
 after =
-    sets (sets (sets (sets (sets (sets (sets (sets (sets (sets (sets (sets (sets (replicate 1024 0) 0 (1024 ∷ nobody ∷ 4 ∷ 3 ∷ 256 ∷ 17 ∷ 4 ∷ 0 ∷ []))
+    sets (sets (sets (sets (sets (sets (sets (sets (sets (sets (sets (replicate 1024 0) 0 (1024 ∷ nobody ∷ 4 ∷ 1 ∷ 256 ∷ 17 ∷ 0 ∷ 0 ∷ []))
     8 (0 ∷ nobody ∷ 0 ∷ 32 ∷ []))
     40 (262148 ∷ 0 ∷ 2784 ∷ 5 ∷ 0 ∷ 0 ∷ 0 ∷ 7 ∷ []))
-    272 (196610 ∷ 262148 ∷ 1664 ∷ 2 ∷ []))
     392 (80 ∷ []))
     396 (11 ∷ []))
     404 (9 ∷ []))
     412 (16 ∷ 1 ∷ 262148 ∷ 0 ∷ []))
-    416 (48 ∷ 2 ∷ 262148 ∷ 0 ∷ 9 ∷ 0 ∷ 2 ∷ 0 ∷ 1094844416 ∷ []))
-    428 (880 ∷ []))
+    416 (928 ∷ []))
     648 (192 ∷ []))
     696 (64 ∷ 3 ∷ 0 ∷ 0 ∷ []))
     712 (1248 ∷ [])
@@ -83,5 +78,5 @@ unfolding tables heap transient before climbs in_tree mask tree used with_bit me
 the_tree = refl
 
 the_end : ended before 2 7 ≡ after
-unfolding tables heap transient before after climbs in_tree mask tree used channel_goes channels_of ended returned swept goes freed absorbed joined run starts starts_within next good header clear taken each woken waits emptied blanked with_bit members with_members without is_output end_of comes_before none_ahead foremost leads handed parted goes_too all_go leaves_it leaving
+unfolding tables heap transient before after climbs in_tree mask tree used channel_goes channels_of ended returned swept goes freed absorbed joined run starts starts_within next good header clear taken each woken waits emptied blanked with_bit members with_members without
 the_end = refl

@@ -31,7 +31,7 @@ use Rattle.emptying.specs.Taken.{channels_of}
 use Rattle.ending.specs.Ended.{ended}
 use Rattle.ending.specs.Remove.{removal, remove, force_remove}
 use Rattle.law_ending.proofs.Taken.{Taken}
-use Rattle.law_ending.proofs.Ended.{ended_tables, ended_is_no_newer, ending_keeps_sound}
+use Rattle.law_ending.proofs.Sound.{ended_tables, ended_is_no_newer, ending_keeps_sound}
 
 -- what holds of every refusal, and of what the call does where its checks pass, holds of the call
 module _ (p d : List ℕ) (P : Outcome → Type 0) (refused : (k : ℤ) → P (refuse k p d))

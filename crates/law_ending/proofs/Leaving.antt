@@ -1,18 +1,17 @@
 -- Ending a tree leaves what it does not own: every entry and block owned from outside, longword for longword.
-use Prim.Native.Nat.{ℕ, ◌+◌, ◌-◌, ◌/◌, ◌≤◌, ◌<◌}
+use Prim.Native.Nat.{ℕ, ◌/◌, ◌<◌}
 use mathlib.Core.Path.{◌≡◌, refl, sym, ◌∙◌, subst}
 use mathlib.Core.Bool.{true, false, ◌&&◌, not}
-use mathlib.Core.Logic.{⊎_elim, ◌⊎◌, inl, inr}
+use mathlib.Core.Logic.{⊎_elim}
 use mathlib.Core.List.{List}
 use lib.Dec.{eqb}
 use native.Mathlib.Omega.{arith}
 use borrow.Author.Tests.{eq-eqb, ne_eqb, not-true}
 use Rattle.words.specs.Words.{word}
 use Rattle.words.specs.Bits.{bit}
-use Rattle.words.specs.Each.{In}
 use Rattle.words.proofs.Tests.{both, false_true, otherwise}
 use Rattle.picture.specs.Layout.{last_word, width, from, upto, size_word, heap_word}
-use Rattle.picture.specs.Records.{field, owner, base, waited_for, used, owner_field, timeout_field, wait_field, key_field}
+use Rattle.picture.specs.Records.{field, base, waited_for, used, timeout_field, wait_field, key_field}
 use Rattle.picture.specs.Numbers.{live}
 use Rattle.picture.specs.declared.Table.{Table}
 use Rattle.picture.specs.declared.Table.TheVariants.{Jobs, Channels}
@@ -21,12 +20,7 @@ use Rattle.picture.specs.declared.Area.TheVariants.{Heap, Transient}
 use Rattle.picture.proofs.Records.{used_below}
 use Rattle.picture.proofs.Timeout.{timeout_zero}
 use Rattle.picture.proofs.Members.{spares_size, spares_heap, spares_last}
-use Rattle.blocks.specs.Header.{header_width, holder_field, queue_kind, size, kind, free, holder}
-use Rattle.blocks.specs.Walk.{starts, blocks}
 use Rattle.headers.proofs.Header.{same_or_not}
-use Rattle.ends.specs.Ends.{leads}
-use Rattle.sound_matching.proofs.Counts.{Matches}
-use Rattle.sound_matching.proofs.Ruled.{leader_matches}
 use Rattle.sound_facts.proofs.Sound.{Sound}
 use Rattle.freeing.specs.Sweep.{named}
 use Rattle.tree.specs.Tree.{tree}
@@ -35,12 +29,12 @@ use Rattle.law_owners.proofs.Owners.{Owners, owners_of}
 use Rattle.law_owners.proofs.Members.{tree_says, tree_unowned}
 use Rattle.emptying.specs.Taken.{waits, channels_of}
 use Rattle.ending.specs.Ended.{ended}
-use Rattle.law_ending.specs.Promise.{Member, End, OfTheTree, HandedOn, Leaves}
+use Rattle.law_ending.specs.Promise.{Member, Leaves}
 use Rattle.law_ending.proofs.Taken.{Taken}
 use Rattle.law_ending.proofs.Areas.{Kept, extra}
 use Rattle.law_ending.proofs.Owned.{named_is, a_member_is_named, a_live_number_named_is_a_member}
-use Rattle.law_ending.proofs.Ended.{left, ended_facts, ended_tables, ended_area}
-use Rattle.law_ending.proofs.OfTheTree.{channel_outside, no_queue, left_ends, left_blocks, left_longword, left_size, left_free, owner_stays, spared}
+use Rattle.law_ending.proofs.Sound.{ended_tables, ended_area}
+use Rattle.law_ending.proofs.OfTheTree.{channel_outside, spared}
 
 module _ (p : List ℕ) (S : Sound p) (t key : ℕ) (top : used p Jobs t ≡ true) (other : t ≡ 0 → ⊥) where
   O : Owners p
@@ -49,10 +43,7 @@ module _ (p : List ℕ) (S : Sound p) (t key : ℕ) (top : used p Jobs t ≡ tru
   T : Taken p (ended p t key) (tree p t) (channels_of p (tree p t)) key
   T = ended_tables p S t key top other
 
-  abbrev x : List ℕ
-  x = left p S t key top other
-
-  K : (r : Area) → Kept x (ended p t key) (from x r) (upto x r) (tree p t) (extra (base p Jobs t / 4) r)
+  K : (r : Area) → Kept p (ended p t key) (from p r) (upto p r) (tree p t) (extra (base p Jobs t / 4) r)
   K = ended_area p S t key top other
 
   -- the mask is the tree in words
@@ -92,17 +83,6 @@ module _ (p : List ℕ) (S : Sound p) (t key : ℕ) (top : used p Jobs t ≡ tru
   same_upto Heap = rw (T.head heap_word (omega arith) (λ z. omega arith) (λ t. spares_heap t))
   same_upto Transient = T.head size_word (omega arith) (λ z. omega arith) (λ t. spares_size t)
 
-  -- a block of the area as the picture that is left has it
-  pub left_from : (r : Area) → from x r ≡ from p r
-  left_from Heap = refl
-  left_from Transient = left_ends p S t key top other Heap
-
-  pub back : (r : Area) (i : ℕ) → In i (starts (ended p t key) (from x r) (upto x r)) → In i (blocks (ended p t key) r)
-  back r i m = rw (same_from r, same_upto r) (rw (left_from r, left_ends p S t key top other r) at m)
-
-  pub forth : (r : Area) (i : ℕ) → In i (blocks (ended p t key) r) → In i (starts (ended p t key) (from x r) (upto x r))
-  forth r i m = rw (left_from r, left_ends p S t key top other r) (rw (same_from r, same_upto r) at m)
-
   same_last : (s : Table) → word (ended p t key) (last_word s) ≡ word p (last_word s)
   same_last Jobs = T.head (last_word Jobs) (omega arith) (λ z. omega arith) (λ t. spares_last t Jobs)
   same_last Channels = T.head (last_word Channels) (omega arith) (λ z. omega arith) (λ t. spares_last t Channels)
@@ -122,58 +102,21 @@ module _ (p : List ℕ) (S : Sound p) (t key : ℕ) (top : used p Jobs t ≡ tru
       (same_or_not f wait_field))
       (same_or_not f timeout_field)
 
-  -- the blocks of the picture in which queues are left to others are those that were
-  pub there_too : (r : Area) (i : ℕ) → In i (blocks p r) → In i (blocks x r)
-  there_too r i m = subst (In i) (sym (left_blocks p S t key top other r)) m
-
-  -- a longword of a block in use that isn't of the tree
-  longword : (r : Area) (i : ℕ) → In i (blocks p r) → free p i ≡ false → (OfTheTree p t i → ⊥) → (k : ℕ) → i ≤ k → k < i + size p i / 4 → (HandedOn p t i k → ⊥) → word (ended p t key) k ≡ word p k
-  longword r i m u n k lo hi h =
-      (K r).keeps i (there_too r i m) (left_free p S t key top other r i m ∙ u) (spared p S t key top other r i m u n) k lo (rw (left_size p S t key top other r i m) hi)
-      ∙ by_place r m (same_or_not k (i + holder_field)) (same_or_not (kind p i) queue_kind)
-    where
-      at_offset : (r : Area) → In i (blocks p r) → (k - i ≡ holder_field → kind p i ≡ queue_kind → ⊥) → word x k ≡ word p k
-      at_offset r m z = let e : i + (k - i) ≡ k = omega arith in rw e at (left_longword p S t key top other r i (k - i) m (omega arith) z)
-
-      its_owner : (r : Area) → In i (blocks p r) → k ≡ i + holder_field → kind p i ≡ queue_kind → word x k ≡ word p k
-      its_owner Heap m e z = rw e (owner_stays p S t key top other i m z (λ M. h (record { its_owner = e; queue = z; of_a_member = M })))
-      its_owner Transient m e z = absurd (no_queue p S t key top other i m z)
-
-      by_place : (r : Area) → In i (blocks p r) → (k ≡ i + holder_field) ⊎ (k ≡ i + holder_field → ⊥) → (kind p i ≡ queue_kind) ⊎ (kind p i ≡ queue_kind → ⊥) → word x k ≡ word p k
-      by_place r m (inl e) (inl z) = its_owner r m e z
-      by_place r m (inl e) (inr z) = at_offset r m (λ _. z)
-      by_place r m (inr e) z = at_offset r m (λ o _. e (omega arith))
-
-  -- the room of any block
-  room_longword : (r : Area) (i : ℕ) → In i (blocks p r) → (k : ℕ) → i + header_width ≤ k → k < i + size p i / 4 → word (ended p t key) k ≡ word p k
-  room_longword r i m k lo hi =
-      let e : i + (k - i) ≡ k = omega arith in
-      (K r).rooms i (there_too r i m) k lo (rw (left_size p S t key top other r i m) hi)
-      ∙ (rw e at (left_longword p S t key top other r i (k - i) m (omega arith) (λ o. absurd (omega arith))))
-
-  -- a queue belongs to the end that leads it
-  led : (i k : ℕ) → In i (blocks p Heap) → kind p i ≡ queue_kind → leads (ended p t key) k ≡ true → End (ended p t key) i k → holder (ended p t key) i ≡ owner p Channels k
-  led i k m z h e =
-      let E = ended_facts p S t key top other in
-      let o = (leader_matches (ended p t key) (E.matched Channels) k i h e.place).1 in
-      sym o.held ∙ (let b : bit (channels_of p (tree p t)) k ≡ false = otherwise (bit (channels_of p (tree p t)) k) (λ d. false_true (sym (T.dies Channels k d) ∙ e.lives)) in T.same Channels k owner_field (used_below (ended p t key) Channels k e.lives) (omega arith) b)
-
   pub leaves : Leaves p (ended p t key) t key
   leaves = record {
     jobs_stay = λ k u n. T.stays Jobs k (outside k u n) ∙ u;
-    channels_stay = λ k u n. T.stays Channels k (channel_outside p S t key top other k u n) ∙ u;
+    channels_stay = λ k u n. T.stays Channels k (channel_outside p S t top other k u n) ∙ u;
     jobs = λ k f u n l n₅ n₆ n₇. T.same_job k f (used_below p Jobs k u) l n₅ n₆ n₇ (outside k u n);
-    channels = λ k f u n l. T.same_channel k f (used_below p Channels k u) l (channel_outside p S t key top other k u n);
+    channels = λ k f u n l. T.same_channel k f (used_below p Channels k u) l (channel_outside p S t top other k u n);
     waiters = λ k u n M.
         let b = outside k u n in
         let w = waits_is k u b M in
         let l = used_below p Jobs k u in
         record { frames = timeout_zero (ended p t key) k (T.frames k l b ∙ rw w); wait = T.wait k l b ∙ rw w; gets = T.gets k l b ∙ rw w };
     others = λ k f u n N h. job_field k f u (outside k u n) (waits_not k u N) h;
-    blocks_stay = λ r i m u n. back r i ((K r).stays i (there_too r i m) (left_free p S t key top other r i m ∙ u) (spared p S t key top other r i m u n));
-    block_longwords = longword;
-    handed_on = led;
-    rooms = room_longword;
+    blocks_stay = λ r i m u n. rw (same_from r, same_upto r) ((K r).stays i m u (spared p S t top other r i m u n));
+    block_longwords = λ r i m u n. (K r).keeps i m u (spared p S t top other r i m u n);
+    rooms = λ r i m. (K r).rooms i m;
     tags = same_last;
     begins = same_from;
     ends = same_upto;

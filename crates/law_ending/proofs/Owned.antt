@@ -23,11 +23,11 @@ use Rattle.picture.proofs.Numbers.{live_is}
 use Rattle.blocks.specs.Header.{kind, free, holder, kind_of}
 use Rattle.blocks.specs.Walk.{blocks}
 use Rattle.blocks.proofs.Starts.{starts_in}
-use Rattle.sound_matching.specs.Match.{area_of, ordinary, has_block}
+use Rattle.sound_matching.specs.Match.{area_of, has_block}
 use Rattle.sound_matching.proofs.Counts.{Matches}
 use Rattle.sound_matching.proofs.Matched.{apart_base}
 use Rattle.sound_facts.proofs.Sound.{Sound}
-use Rattle.sound_matching.proofs.Entries.{has_block_used}
+use Rattle.sound_facts.proofs.View.{has_block_used}
 use Rattle.freeing.specs.Sweep.{named, goes}
 use Rattle.tree.specs.Tree.{in_tree, tree}
 use Rattle.masks.specs.Masks.{set_width, mask}
@@ -58,14 +58,6 @@ is_named m n l b = rw (lt-ltb (position n) (positions Jobs) l, b)
 pub not_named : (m n : ℕ) → position n < positions Jobs → named m n ≡ false → bit m (position n) ≡ false
 not_named m n l h = sym (rw (lt-ltb (position n) (positions Jobs) l)) ∙ h
 
--- the channels of the tree of the job at position t: those that its members own
-abbrev pub ChannelsOf : List ℕ → ℕ → ℕ → Type 0
-ChannelsOf p t c = (k : ℕ) → used p Channels k ≡ true → bit c k ≡ named (tree p t) (owner p Channels k)
-
-pub channels_of_the_tree : (p : List ℕ) (t : ℕ) → ChannelsOf p t (channels_of p (tree p t))
-unfolding channels_of channel_goes
-channels_of_the_tree p t k u = mask_bit (channel_goes p (tree p t)) (positions Channels) k (used_below p Channels k u) ∙ rw u
-
 module _ (p : List ℕ) (S : Sound p) (t : ℕ) where
   O : Owners p
   O = owners_of p S.jobs
@@ -78,12 +70,14 @@ module _ (p : List ℕ) (S : Sound p) (t : ℕ) where
   a_live_number_named_is_a_member n l h = let w = named_is (tree p t) n h in record { lives = l; under = (tree_says p O t (position n) w.0 w.1).1 }
 
   -- a job outside the tree is owned from outside it, and so is a channel that stays
-  pub owner_outside : (c : ℕ) → ChannelsOf p t c → (T : Table) (k : ℕ) → used p T k ≡ true → bit (going (tree p t) c T) k ≡ false → live p Jobs (owner p T k) ≡ true → named (tree p t) (owner p T k) ≡ false
-  owner_outside c C Jobs k u b l = otherwise (named (tree p t) (owner p Jobs k)) (λ n.
+  pub owner_outside : (T : Table) (k : ℕ) → used p T k ≡ true → bit (going (tree p t) (channels_of p (tree p t)) T) k ≡ false → live p Jobs (owner p T k) ≡ true → named (tree p t) (owner p T k) ≡ false
+  unfolding channels_of channel_goes
+  owner_outside Jobs k u b l = otherwise (named (tree p t) (owner p Jobs k)) (λ n.
       let w = named_is (tree p t) (owner p Jobs k) n in
       let v = live_is p Jobs (owner p Jobs k) l in
       false_true (sym b ∙ tree_child p O t k (position (owner p Jobs k)) u v.used (sym v.names) w.1))
-  owner_outside c C Channels k u b l = sym (C k u) ∙ b
+  owner_outside Channels k u b l = otherwise (named (tree p t) (owner p Channels k)) (λ n.
+      false_true (sym b ∙ mask_bit (channel_goes p (tree p t)) (positions Channels) k (used_below p Channels k u) ∙ rw (u, n)))
 
   -- a job but the top is in the tree if its owner is
   by_owner : (k : ℕ) → used p Jobs k ≡ true → (k ≡ t → ⊥) → named (tree p t) (owner p Jobs k) ≡ bit (tree p t) k
@@ -108,7 +102,7 @@ module _ (p : List ℕ) (S : Sound p) (t : ℕ) where
       past x e l = let z : position nobody < positions Jobs = subst (λ (y : ℕ). position y < positions Jobs) e l in omega arith
 
   has_block_top : used p Jobs t ≡ true → (t ≡ 0 → ⊥) → has_block p Jobs t ≡ true
-  unfolding has_block ordinary
+  unfolding has_block
   has_block_top u n = rw (le-leb 1 t (omega arith), u)
 
   in_use : (T : Table) (i : ℕ) → kind p i ≡ kind_of T → free p i ≡ false
@@ -116,10 +110,10 @@ module _ (p : List ℕ) (S : Sound p) (t : ℕ) where
   in_use Channels i e = ne_eqb (kind p i) 0 (λ z. omega arith)
 
   -- an entry's block goes if the entry does
-  pub block_goes : (c : ℕ) → ChannelsOf p t c → used p Jobs t ≡ true → (t ≡ 0 → ⊥) → (T : Table) (k i : ℕ) → In i (blocks p (area_of T)) → Matches p T k i
-      → goes p (tree p t) (extra (base p Jobs t / 4) (area_of T)) i ≡ bit (going (tree p t) c T) k
-  unfolding goes
-  block_goes c C u n Jobs k i b o = rw (in_use Jobs i o.sorts) (go (eqb i (base p Jobs t / 4)) refl)
+  pub block_goes : used p Jobs t ≡ true → (t ≡ 0 → ⊥) → (T : Table) (k i : ℕ) → In i (blocks p (area_of T)) → Matches p T k i
+      → goes p (tree p t) (extra (base p Jobs t / 4) (area_of T)) i ≡ bit (going (tree p t) (channels_of p (tree p t)) T) k
+  unfolding goes channels_of channel_goes
+  block_goes u n Jobs k i b o = rw (in_use Jobs i o.sorts) (go (eqb i (base p Jobs t / 4)) refl)
     where
       own : used p Jobs k ≡ true
       own = has_block_used p Jobs k o.has
@@ -137,8 +131,8 @@ module _ (p : List ℕ) (S : Sound p) (t : ℕ) where
         where
           at_top : k ≡ t → i ≡ base p Jobs t / 4
           at_top e = let y : base p Jobs t ≡ 4 * i = subst (λ (x : ℕ). base p Jobs x ≡ 4 * i) e o.place in omega arith
-  block_goes c C u n Channels k i b o =
+  block_goes u n Channels k i b o =
       let w = (starts_in p (from p Heap) (upto p Heap) i b).0 in
       let v = has_block_used p Channels k o.has in
       rw (in_use Channels i o.sorts, ne_eqb i no_block (λ z. omega arith), ← o.held)
-      (sym (C k v))
+      (sym (mask_bit (channel_goes p (tree p t)) (positions Channels) k (used_below p Channels k v) ∙ rw v))

@@ -12,7 +12,7 @@ use Rattle.law_ending.specs.Promise.{Leaves, Takes}
 use Rattle.law_ending.proofs.Leaving.{leaves}
 use Rattle.law_ending.proofs.Taking.{takes}
 
--- every entry whose owner is outside the tree and every block that isn't of it is, longword for longword, what it was, but for the owner of a queue that is handed on
+-- every entry and block whose owner is outside the tree is, longword for longword, what it was
 pub ending_leaves_others : (p : List ℕ) (t key : ℕ) → sound p ≡ true → used p Jobs t ≡ true → (t ≡ 0 → ⊥) → Leaves p (ended p t key) t key
 ending_leaves_others p t key s u n = leaves p (view p s) t key u n
 

@@ -1,5 +1,5 @@
--- Ending a tree keeps a sound picture sound: first where each channel of the tree is the only end of its queue, then where ends that leave their queue to others go first.
-use Prim.Native.Nat.{ℕ, zero, suc, ◌+◌, ◌-◌, ◌*◌, ◌/◌, ◌%◌, ◌^◌, ◌≤◌, ◌<◌}
+-- Ending a tree keeps a sound picture sound.
+use Prim.Native.Nat.{ℕ, zero, suc, ◌+◌, ◌-◌, ◌*◌, ◌/◌, ◌%◌, ◌≤◌, ◌<◌}
 use mathlib.Core.Path.{◌≡◌, refl, sym, ap, ◌∙◌, subst}
 use mathlib.Core.Bool.{Bool, true, false, ◌&&◌, ◌||◌, not, cond}
 use mathlib.Core.Logic.{⊎_elim, ◌⊎◌, inl, inr}
@@ -26,9 +26,7 @@ use Rattle.blocks.specs.Header.{kind_field, holder_field, start_field, queue_len
 use Rattle.blocks.specs.Walk.{good, next, starts, blocks}
 use Rattle.headers.proofs.Header.{same_or_not}
 use Rattle.law_areas.proofs.Row.{block_of}
-use Rattle.ends.specs.Ends.{is_output, leads}
-use Rattle.ends.proofs.Ends.{leads_used, leads_carried}
-use Rattle.sound_matching.specs.Match.{first, area_of, ordinary, has_block}
+use Rattle.sound_matching.specs.Match.{first, area_of, has_block}
 use Rattle.sound_matching.proofs.Counts.{Matches}
 use Rattle.sound_matching.proofs.Matched.{Matched}
 use Rattle.sound_records.specs.Rules.{may_be_unowned}
@@ -37,19 +35,17 @@ use Rattle.picture.proofs.Timeout.{Timely, timely_zero, timeout_same, timeout_ze
 use Rattle.picture.proofs.Members.{spares_size, spares_heap, spares_last}
 use Rattle.sound.specs.Sound.{sound}
 use Rattle.sound_facts.proofs.Sound.{Sizes, Queue, Waits, Owned, Entries, Jobs_fine, Channels_fine, Fits, Tiled, Current, Sound}
-use Rattle.sound_matching.proofs.Entries.{ordinary_is_used, has_block_used}
-use Rattle.sound_facts.proofs.View.{view, sound_again}
+use Rattle.sound_facts.proofs.View.{has_block_used, view, sound_again}
 use Rattle.sound_facts.proofs.Sizes.{Fixed, sizes_kept}
 use Rattle.freeing.specs.Sweep.{named, goes}
 use Rattle.tree.specs.Tree.{tree}
 use Rattle.law_owners.proofs.Owners.{owners_of}
 use Rattle.law_owners.proofs.Members.{tree_unowned}
-use Rattle.masks.specs.Masks.{set_width}
-use Rattle.emptying.specs.Taken.{waits, taken}
-use Rattle.ending.specs.Ended.{returned}
+use Rattle.emptying.specs.Taken.{waits, channels_of}
+use Rattle.ending.specs.Ended.{returned, ended}
 use Rattle.law_ending.proofs.Taken.{going, Taken, taken_tables, taken_above, taken_from, taken_gains, taken_priority}
 use Rattle.law_ending.proofs.Areas.{Kept, extra, returned_long, returned_low, area_kept}
-use Rattle.law_ending.proofs.Owned.{ChannelsOf, tree_fits, named_is, is_named, not_named, owner_outside, block_goes}
+use Rattle.law_ending.proofs.Owned.{tree_fits, channels_fit, named_is, is_named, not_named, owner_outside, block_goes}
 
 -- a block in use that does not go is not the extra one, and its owner is not of the mask
 pub not_going : (p : List ℕ) (m a i : ℕ) → free p i ≡ false → goes p m a i ≡ false → named m (holder p i) ≡ false
@@ -61,17 +57,12 @@ not_going p m a i u g = go (eqb i a) (named m (holder p i)) (rw u at g)
     go false c h = h
 
 -- a position that is and stays in use; one that goes
--- the picture without the jobs of the tree, its blocks and the channels of c
-abbrev pub gone_with : List ℕ → ℕ → ℕ → ℕ → List ℕ
-gone_with p t c key = taken (returned p (tree p t) (base p Jobs t / 4)) (tree p t) c key
-
--- no channel of c shares its queue
-abbrev pub Alone : List ℕ → ℕ → Type 0
-Alone p c = (j k : ℕ) → used p Channels j ≡ true → used p Channels k ≡ true → bit c k ≡ true → base p Channels j ≡ base p Channels k → j ≡ k
-
-module _ (p : List ℕ) (S : Sound p) (t key c : ℕ) (cf : c < 2 ^ set_width) (C : ChannelsOf p t c) (alone : Alone p c) (top : used p Jobs t ≡ true) (other : t ≡ 0 → ⊥) where
+module _ (p : List ℕ) (S : Sound p) (t key : ℕ) (top : used p Jobs t ≡ true) (other : t ≡ 0 → ⊥) where
   m : ℕ
   m = tree p t
+
+  c : ℕ
+  c = channels_of p m
 
   a : ℕ
   a = base p Jobs t / 4
@@ -80,27 +71,27 @@ module _ (p : List ℕ) (S : Sound p) (t key c : ℕ) (cf : c < 2 ^ set_width) (
   y = returned p m a
 
   q : List ℕ
-  q = gone_with p t c key
+  q = ended p t key
 
   long_y : heap_base ≤ length y
   unfolding y
   long_y = let l = S.sizes.least in rw (returned_long p S m a) (omega arith)
 
-  pub gone_tables : Taken p (gone_with p t c key) (tree p t) c key
-  unfolding y m a
-  gone_tables = taken_from p y (gone_with p t c key) m c key (returned_long p S m a) (returned_low p S m a) (taken_tables y m c key long_y (tree_fits p t) cf)
+  pub ended_tables : Taken p (ended p t key) (tree p t) (channels_of p (tree p t)) key
+  unfolding ended y m c a
+  ended_tables = taken_from p y (ended p t key) m c key (returned_long p S m a) (returned_low p S m a) (taken_tables y m c key long_y (tree_fits p t) (channels_fit p m))
 
   T : Taken p q m c key
-  unfolding q m
-  T = gone_tables
+  unfolding q m c
+  T = ended_tables
 
-  pub gone_area : (r : Area) → Kept p (gone_with p t c key) (from p r) (upto p r) (tree p t) (extra (base p Jobs t / 4) r)
-  unfolding y m a
-  gone_area r = area_kept p S m a (gone_with p t c key) (λ k l. taken_above y m c key long_y (tree_fits p t) cf k l) r
+  pub ended_area : (r : Area) → Kept p (ended p t key) (from p r) (upto p r) (tree p t) (extra (base p Jobs t / 4) r)
+  unfolding ended y m c a
+  ended_area r = area_kept p S m a (ended p t key) (λ k l. taken_above y m c key long_y (tree_fits p t) (channels_fit p m) k l) r
 
   K : (r : Area) → Kept p q (from p r) (upto p r) m (extra a r)
   unfolding q m a
-  K = gone_area
+  K = ended_area
 
   -- an entry of q was one of p, and does not go
   was : (t' : Table) (k : ℕ) → used q t' k ≡ true → (used p t' k ≡ true) × (bit (going m c t') k ≡ false)
@@ -134,51 +125,24 @@ module _ (p : List ℕ) (S : Sound p) (t key c : ℕ) (cf : c < 2 ^ set_width) (
       (elim [ Jobs ↦ rw (same_last Jobs) (S.sizes.last Jobs) | Channels ↦ rw (same_last Channels) (S.sizes.last Channels) ])
       S.sizes
 
-  -- a channel that stays leads its queue if it did, since every end of its queue stays
-  same_output : (k : ℕ) → used q Channels k ≡ true → is_output q k ≡ is_output p k
-  unfolding is_output
-  same_output k u = rw (T.same_channel k ending_field (used_below q Channels k u) (omega arith) (was Channels k u).1)
-
-  channel_base : (k : ℕ) → used q Channels k ≡ true → base q Channels k ≡ base p Channels k
-  channel_base k u = T.same Channels k base_field (used_below q Channels k u) (omega arith) (was Channels k u).1
-
-  led_before : (k : ℕ) → leads q k ≡ true → leads p k ≡ true
-  led_before k h =
-      let u = leads_used q k h in
-      leads_carried q p k h (was Channels k u).0 (sym (same_output k u)) (λ j v e.
-      let b : bit c j ≡ false = otherwise (bit c j) (λ x. false_true (sym (was Channels k u).1 ∙ ap (bit c) (alone k j (was Channels k u).0 v x (sym e)) ∙ x)) in
-      let w : used q Channels j ≡ true = T.stays Channels j b ∙ v in
-      (w, (channel_base j w ∙ e ∙ sym (channel_base k u), sym (same_output j w))))
-
-  leads_still : (k : ℕ) → bit c k ≡ false → leads p k ≡ true → leads q k ≡ true
-  leads_still k b h =
-      let u : used q Channels k ≡ true = T.stays Channels k b ∙ leads_used p k h in
-      leads_carried p q k h u (same_output k u) (λ j v e. ((was Channels j v).0, (sym (channel_base j v) ∙ e ∙ channel_base k u, same_output j v)))
-
   has_block_was : (t' : Table) (k : ℕ) → has_block q t' k ≡ true → has_block p t' k ≡ true
-  unfolding has_block ordinary
-  has_block_was Jobs k h = let b = both (leb (first Jobs) k) (used q Jobs k) h in rw (b.0, (was Jobs k b.1).0)
-  has_block_was Channels k h = led_before k h
+  unfolding has_block
+  has_block_was t' k h = let b = both (leb (first t') k) (used q t' k) h in rw (b.0, (was t' k b.1).0)
 
   has_block_stays : (t' : Table) (k : ℕ) → bit (going m c t') k ≡ false → has_block p t' k ≡ true → has_block q t' k ≡ true
-  unfolding has_block ordinary
-  has_block_stays Jobs k b h = let d = both (leb (first Jobs) k) (used p Jobs k) h in rw (d.0, T.stays Jobs k b ∙ d.1)
-  has_block_stays Channels k b h = leads_still k b h
-
-  ordinary_was : (t' : Table) (k : ℕ) → ordinary q t' k ≡ true → ordinary p t' k ≡ true
-  unfolding ordinary
-  ordinary_was t' k h = let b = both (leb (first t') k) (used q t' k) h in rw (b.0, (was t' k b.1).0)
+  unfolding has_block
+  has_block_stays t' k b h = let d = both (leb (first t') k) (used p t' k) h in rw (d.0, T.stays t' k b ∙ d.1)
 
   owned_stays : (t' : Table) (k : ℕ) → used p t' k ≡ true → bit (going m c t') k ≡ false → Owned p (may_be_unowned t') (owner p t' k) → Owned q (may_be_unowned t') (owner p t' k)
-  unfolding m
-  owned_stays t' k u b o = ⊎_elim inl (λ l. inr (live_stays (owner p t' k) l (owner_outside p S t c C t' k u b l))) o
+  unfolding m c
+  owned_stays t' k u b o = ⊎_elim inl (λ l. inr (live_stays (owner p t' k) l (owner_outside p S t t' k u b l))) o
 
   -- the records of both tables
   entries_kept : (t' : Table) → ((k f : ℕ) → k < positions t' → f < width t' → used p t' k ≡ false → bit (going m c t') k ≡ false → field q t' k f ≡ 0) → word q (last_word t') ≡ word p (last_word t') → Entries p t' → Entries q t'
   entries_kept t' z l E = record {
     unused = λ k f h w u. unused_by k f h w u (bit (going m c t') k) refl;
     place = λ k u. let v = was t' k u in rw (T.same t' k number_field (used_below q t' k u) (omega arith) v.1) (E.place k v.0);
-    tagged = λ k h. let u = ordinary_is_used q t' k h in let v = was t' k u in rw (T.same t' k number_field (used_below q t' k u) (omega arith) v.1) (E.tagged k (ordinary_was t' k h));
+    tagged = λ k h. let u = has_block_used q t' k h in let v = was t' k u in rw (T.same t' k number_field (used_below q t' k u) (omega arith) v.1) (E.tagged k (has_block_was t' k h));
     once = λ i k g h e. let v = was t' i g in let w = was t' k h in E.once i k v.0 w.0 (rw (T.same t' i number_field (used_below q t' i g) (omega arith) v.1, T.same t' k number_field (used_below q t' k h) (omega arith) w.1) at e);
     owned = λ k u. let v = was t' k u in rw (T.same t' k owner_field (used_below q t' k u) (omega arith) v.1) (owned_stays t' k v.0 v.1 (E.owned k v.0));
     given = λ k u. let v = was t' k u in rw (T.same t' k number_field (used_below q t' k u) (omega arith) v.1, l) (E.given k v.0);
@@ -290,7 +254,7 @@ module _ (p : List ℕ) (S : Sound p) (t key c : ℕ) (cf : c < 2 ^ set_width) (
   channels_kept : Channels_fine q
   channels_kept = record {
     entries = entries_kept Channels (λ k f l h u b. T.same_channel k f l h b ∙ S.channels.entries.unused k f l h u) (same_last Channels) S.channels.entries;
-    known = λ k u. let v = was Channels k u in rw (T.same_channel k ending_field (used_below q Channels k u) (omega arith) v.1) (S.channels.known k v.0);
+    one = λ k u. let v = was Channels k u in T.same_channel k ending_field (used_below q Channels k u) (omega arith) v.1 ∙ S.channels.one k v.0;
   }
 
   -- a block in use of q was one of p, with every longword
@@ -370,8 +334,8 @@ module _ (p : List ℕ) (S : Sound p) (t key c : ℕ) (cf : c < 2 ^ set_width) (
 
   -- an entry's block stays if the entry does, and the other way round
   own_goes : (t' : Table) (k i : ℕ) → In i (blocks p (area_of t')) → Matches p t' k i → goes p m (extra a (area_of t')) i ≡ bit (going m c t') k
-  unfolding m a
-  own_goes t' k i n o = block_goes p S t c C top other t' k i n o
+  unfolding m c a
+  own_goes t' k i n o = block_goes p S t top other t' k i n o
 
   kind_in_use : (t' : Table) (n : ℕ) → n ≡ kind_of t' → n ≡ 0 → ⊥
   kind_in_use Jobs n e z = omega arith
@@ -422,6 +386,18 @@ module _ (p : List ℕ) (S : Sound p) (t key c : ℕ) (cf : c < 2 ^ set_width) (
             held = sym (T.same t' k owner_field l (omega arith) x.1) ∙ o.held ∙ w.same holder_field (omega arith);
           }
 
-  pub gone_facts : Sound (gone_with p t c key)
+  pub ended_facts : Sound (ended p t key)
   unfolding q
-  gone_facts = record { sizes = sizes_again; jobs = jobs_kept; channels = channels_kept; tiled = tiled_kept; matched = matched_kept; current = inl T.current }
+  ended_facts = record { sizes = sizes_again; jobs = jobs_kept; channels = channels_kept; tiled = tiled_kept; matched = matched_kept; current = inl T.current }
+
+  -- no entry is new
+  pub ended_is_no_newer : (t' : Table) (n : ℕ) → live (ended p t key) t' n ≡ true → live p t' n ≡ true
+  unfolding q
+  ended_is_no_newer t' n l =
+      let v = live_is q t' n l in
+      let w = was t' (position n) v.used in
+      is_live p t' n (record { used = w.0; names = sym (T.same t' (position n) number_field (used_below q t' (position n) v.used) (omega arith) w.1) ∙ v.names })
+
+-- ending the tree of a live job other than 0 keeps a sound picture sound
+pub ending_keeps_sound : (p : List ℕ) (t key : ℕ) → sound p ≡ true → used p Jobs t ≡ true → (t ≡ 0 → ⊥) → sound (ended p t key) ≡ true
+ending_keeps_sound p t key s u n = sound_again (ended p t key) (ended_facts p (view p s) t key u n)

@@ -21,7 +21,7 @@ use Rattle.calls.specs.Writes.{with_nobody}
 use Rattle.emptying.specs.Each.{each}
 use Rattle.emptying.specs.Taken.{waits, woken, emptied, taken}
 use Rattle.emptying.proofs.Steps.{length_each, length_woken, length_emptied}
-use Rattle.law_emptying.proofs.Tables.{Beside, emptied_other, emptied_record, emptied_mask, out_of_use, in_use, waits_same, wakes_other, wakes_timeout, wakes_wait, wakes_key}
+use Rattle.law_ending.proofs.Tables.{Beside, emptied_other, emptied_record, emptied_mask, out_of_use, in_use, waits_same, wakes_other, wakes_timeout, wakes_wait, wakes_key}
 
 -- the mask of a table's entries that go
 abbrev pub going : ℕ → ℕ → Table → ℕ

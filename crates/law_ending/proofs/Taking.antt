@@ -7,7 +7,7 @@ use lib.Dec.{eqb}
 use native.Mathlib.Omega.{arith}
 use borrow.Author.Tests.{eq-eqb, eqb-true, not-true}
 use Rattle.words.specs.Bits.{bit}
-use Rattle.words.specs.Each.{any, total, In}
+use Rattle.words.specs.Each.{any, In}
 use Rattle.words.proofs.Tests.{both, false_true, otherwise}
 use Rattle.words.proofs.Each.{any_some, some_any, total_same}
 use Rattle.picture.specs.Layout.{positions, from, upto}
@@ -16,26 +16,26 @@ use Rattle.picture.specs.declared.Table.{Table}
 use Rattle.picture.specs.declared.Table.TheVariants.{Jobs, Channels}
 use Rattle.picture.specs.declared.Area.{Area}
 use Rattle.picture.proofs.Records.{used_below}
-use Rattle.blocks.specs.Header.{kind_field, size, free}
+use Rattle.blocks.specs.Header.{kind_field, holder_field, size, free}
 use Rattle.blocks.specs.Walk.{blocks}
-use Rattle.law_areas.specs.Area.{free_size, free_bytes}
+use Rattle.law_areas.specs.Area.{free_bytes}
 use Rattle.law_areas.proofs.Row.{block_of}
 use Rattle.sound_facts.proofs.Sound.{Sound}
 use Rattle.freeing.specs.Sweep.{goes}
 use Rattle.law_freeing.proofs.Goes.{goes_used}
-use Rattle.law_freeing.specs.Swept.{given_size, given_bytes}
+use Rattle.law_freeing.specs.Swept.{given_size}
 use Rattle.tree.specs.Tree.{tree}
 use Rattle.law_owners.proofs.Owners.{Owners, owners_of}
 use Rattle.law_owners.proofs.Members.{tree_has}
 use Rattle.emptying.specs.Taken.{channels_of}
 use Rattle.ending.specs.Ended.{ended}
-use Rattle.law_ending.specs.Promise.{Gone, OldEntry, OfTheTree, OldBlock, Free, in_use_at, gone_size, gone_bytes, Leaves, Takes}
+use Rattle.law_ending.specs.Promise.{Gone, OldEntry, OfTheTree, OldBlock, Free, in_use_at, gone_size, gone_bytes, Takes}
 use Rattle.law_ending.proofs.Taken.{going, Taken}
 use Rattle.law_ending.proofs.Areas.{Kept, extra}
 use Rattle.law_areas.proofs.Lie.{Lies, each_longword_lies_in_a_block, no_longword_lies_in_two_blocks}
-use Rattle.law_ending.proofs.Ended.{left, ended_tables, ended_area}
-use Rattle.law_ending.proofs.OfTheTree.{member_channel, left_ends, left_blocks, left_size, left_free, of_the_tree_goes}
-use Rattle.law_ending.proofs.Leaving.{same_from, same_upto, left_from, back, forth, there_too, leaves}
+use Rattle.law_ending.proofs.Sound.{ended_tables, ended_area}
+use Rattle.law_ending.proofs.OfTheTree.{member_channel, of_the_tree_goes}
+use Rattle.law_ending.proofs.Leaving.{same_from, same_upto}
 
 module _ (p : List ℕ) (S : Sound p) (t key : ℕ) (top : used p Jobs t ≡ true) (other : t ≡ 0 → ⊥) where
   O : Owners p
@@ -44,14 +44,8 @@ module _ (p : List ℕ) (S : Sound p) (t key : ℕ) (top : used p Jobs t ≡ tru
   T : Taken p (ended p t key) (tree p t) (channels_of p (tree p t)) key
   T = ended_tables p S t key top other
 
-  abbrev x : List ℕ
-  x = left p S t key top other
-
-  K : (r : Area) → Kept x (ended p t key) (from x r) (upto x r) (tree p t) (extra (base p Jobs t / 4) r)
+  K : (r : Area) → Kept p (ended p t key) (from p r) (upto p r) (tree p t) (extra (base p Jobs t / 4) r)
   K = ended_area p S t key top other
-
-  L : Leaves p (ended p t key) t key
-  L = leaves p S t key top other
 
   -- a test that cannot fail
   passes : (b : Bool) → (b ≡ false → ⊥) → b ≡ true
@@ -70,25 +64,22 @@ module _ (p : List ℕ) (S : Sound p) (t key : ℕ) (top : used p Jobs t ≡ tru
       record { was_used = v; same_number = T.same s k number_field l (omega arith) b; same_owner = T.same s k owner_field l (omega arith) b; same_base = T.same s k base_field l (omega arith) b }
 
   -- a block in use afterwards
-  old : (r : Area) (i : ℕ) → In i (blocks (ended p t key) r) → free (ended p t key) i ≡ false → In i (blocks p r) × ((free p i ≡ false) × (goes x (tree p t) (extra (base p Jobs t / 4) r) i ≡ false))
-  old r i m u =
-      let o = (K r).only i (forth p S t key top other r i m) u in
-      let n = subst (In i) (left_blocks p S t key top other r) o.0 in
-      (n, (sym (left_free p S t key top other r i n) ∙ o.1.0, o.1.1))
+  old : (r : Area) (i : ℕ) → In i (blocks (ended p t key) r) → free (ended p t key) i ≡ false → In i (blocks p r) × ((free p i ≡ false) × (goes p (tree p t) (extra (base p Jobs t / 4) r) i ≡ false))
+  old r i m u = (K r).only i (rw (same_from p S t key top other r, same_upto p S t key top other r) at m) u
 
   old_block : (r : Area) (i : ℕ) → In i (blocks (ended p t key) r) → free (ended p t key) i ≡ false → OldBlock p (ended p t key) t r i
   old_block r i m u =
       let o = old r i m u in
       let B = block_of p (from p r) (upto p r) (S.tiled r).whole i o.0 in
       let l = B.least in
-      let n : OfTheTree p t i → ⊥ = λ g. false_true (sym o.1.1 ∙ of_the_tree_goes p S t key top other r i o.0 o.1.0 g) in
-      let keeps = L.block_longwords r i o.0 o.1.0 n in
+      let keeps = (K r).keeps i o.0 o.1.0 o.1.1 in
       record {
         was_there = o.0;
         was_used = o.1.0;
-        outside = n;
-        same_length = keeps i (omega arith) (omega arith) (λ h. let e = h.its_owner in omega arith);
-        same_kind = keeps (i + kind_field) (omega arith) (omega arith) (λ h. let e = h.its_owner in omega arith);
+        outside = λ g. false_true (sym o.1.1 ∙ of_the_tree_goes p S t top other r i o.0 o.1.0 g);
+        same_length = keeps i (omega arith) (omega arith);
+        same_kind = keeps (i + kind_field) (omega arith) (omega arith);
+        same_owner = keeps (i + holder_field) (omega arith) (omega arith);
         same_longwords = keeps;
       }
 
@@ -98,8 +89,8 @@ module _ (p : List ℕ) (S : Sound p) (t key : ℕ) (top : used p Jobs t ≡ tru
       let B = block_of p (from p r) (upto p r) (S.tiled r).whole i m in
       let a = B.low in
       let b = B.high in
-      let c = each_longword_lies_in_a_block (ended p t key) (from x r) (upto x r) k (K r).tiled (rw (left_from p S t key top other r) (omega arith)) (rw (left_ends p S t key top other r) (omega arith)) in
-      let there : In c.0 (blocks (ended p t key) r) = back p S t key top other r c.0 c.1.0 in
+      let c = each_longword_lies_in_a_block (ended p t key) (from p r) (upto p r) k (K r).tiled (omega arith) (omega arith) in
+      let there : In c.0 (blocks (ended p t key) r) = rw (same_from p S t key top other r, same_upto p S t key top other r) c.1.0 in
       record {
         block = c.0;
         there = there;
@@ -115,54 +106,39 @@ module _ (p : List ℕ) (S : Sound p) (t key : ℕ) (top : used p Jobs t ≡ tru
           o.outside (subst (OfTheTree p t) e g)
 
   -- a block is gone exactly where it goes
-  gone_is_given : (r : Area) (i : ℕ) → In i (blocks p r) → gone_size p (ended p t key) r i ≡ given_size x (tree p t) (extra (base p Jobs t / 4) r) i
-  gone_is_given r i m = rw (left_size p S t key top other r i m) (go (free p i) (goes x (tree p t) (extra (base p Jobs t / 4) r) i) refl refl)
+  gone_is_given : (r : Area) (i : ℕ) → In i (blocks p r) → gone_size p (ended p t key) r i ≡ given_size p (tree p t) (extra (base p Jobs t / 4) r) i
+  gone_is_given r i m = go (free p i) (goes p (tree p t) (extra (base p Jobs t / 4) r) i) refl refl
     where
-      stands : free p i ≡ false → goes x (tree p t) (extra (base p Jobs t / 4) r) i ≡ false → in_use_at (ended p t key) r i ≡ true
+      stands : free p i ≡ false → goes p (tree p t) (extra (base p Jobs t / 4) r) i ≡ false → in_use_at (ended p t key) r i ≡ true
       stands u g =
-          let w = there_too p S t key top other r i m in
-          let v = left_free p S t key top other r i m ∙ u in
-          let n : In i (blocks (ended p t key) r) = back p S t key top other r i ((K r).stays i w v g) in
+          let n : In i (blocks (ended p t key) r) = rw (same_from p S t key top other r, same_upto p S t key top other r) ((K r).stays i m u g) in
           let B = block_of p (from p r) (upto p r) (S.tiled r).whole i m in
           let l = B.least in
-          let z = left_size p S t key top other r i m in
-          let f : free (ended p t key) i ≡ false = rw ((K r).keeps i w v g (i + kind_field) (omega arith) (omega arith)) v in
+          let f : free (ended p t key) i ≡ false = rw ((K r).keeps i m u g (i + kind_field) (omega arith) (omega arith)) u in
           rw (some_any (eqb i) (blocks (ended p t key) r) i n (eq-eqb i i refl), f)
 
-      gone_there : goes x (tree p t) (extra (base p Jobs t / 4) r) i ≡ true → in_use_at (ended p t key) r i ≡ false
+      gone_there : goes p (tree p t) (extra (base p Jobs t / 4) r) i ≡ true → in_use_at (ended p t key) r i ≡ false
       gone_there g = otherwise (in_use_at (ended p t key) r i) (λ h.
-          let a = both (any (eqb i) (blocks (ended p t key) r)) (not (free (ended p t key) i)) h in
-          let s = any_some (eqb i) (blocks (ended p t key) r) a.0 in
+          let x = both (any (eqb i) (blocks (ended p t key) r)) (not (free (ended p t key) i)) h in
+          let s = any_some (eqb i) (blocks (ended p t key) r) x.0 in
           let n : In i (blocks (ended p t key) r) = subst (λ (j : ℕ). In j (blocks (ended p t key) r)) (sym (eqb-true i s.0 s.1.1)) s.1.0 in
-          false_true (sym (old r i n (not-true (free (ended p t key) i) a.1)).1.1 ∙ g))
+          false_true (sym (old r i n (not-true (free (ended p t key) i) x.1)).1.1 ∙ g))
 
-      go : (f g : Bool) → free p i ≡ f → goes x (tree p t) (extra (base p Jobs t / 4) r) i ≡ g
+      go : (f g : Bool) → free p i ≡ f → goes p (tree p t) (extra (base p Jobs t / 4) r) i ≡ g
           → cond (not f && not (in_use_at (ended p t key) r i)) (size p i) 0 ≡ cond g (size p i) 0
-      go true true u g = absurd (false_true (sym (goes_used x (tree p t) (extra (base p Jobs t / 4) r) i g) ∙ left_free p S t key top other r i m ∙ u))
+      go true true u g = absurd (false_true (sym (goes_used p (tree p t) (extra (base p Jobs t / 4) r) i g) ∙ u))
       go true false u g = refl
       go false true u g = rw (gone_there g)
       go false false u g = rw (stands u g)
 
-  -- as many bytes are free in the picture that is left as were before
-  left_free_bytes : (r : Area) → free_bytes x (from x r) (upto x r) ≡ free_bytes p (from p r) (upto p r)
-  left_free_bytes r = ap (total (free_size x)) (left_blocks p S t key top other r)
-      ∙ total_same (free_size x) (free_size p) (blocks p r) (λ i m. rw (left_free p S t key top other r i m, left_size p S t key top other r i m))
-
-  given_gone : (r : Area) → given_bytes x (from x r) (upto x r) (tree p t) (extra (base p Jobs t / 4) r) ≡ gone_bytes p (ended p t key) r
-  given_gone r = ap (total (given_size x (tree p t) (extra (base p Jobs t / 4) r))) (left_blocks p S t key top other r)
-      ∙ sym (total_same (gone_size p (ended p t key) r) (given_size x (tree p t) (extra (base p Jobs t / 4) r)) (blocks p r) (gone_is_given r))
-
   more_free : (r : Area) → free_bytes (ended p t key) (from (ended p t key) r) (upto (ended p t key) r) ≡ free_bytes p (from p r) (upto p r) + gone_bytes p (ended p t key) r
-  more_free r = ap (λ (b : ℕ). free_bytes (ended p t key) b (upto (ended p t key) r)) (same_from p S t key top other r ∙ sym (left_from p S t key top other r))
-      ∙ ap (free_bytes (ended p t key) (from x r)) (same_upto p S t key top other r ∙ sym (left_ends p S t key top other r))
-      ∙ (K r).more_free
-      ∙ ap (λ (n : ℕ). n + given_bytes x (from x r) (upto x r) (tree p t) (extra (base p Jobs t / 4) r)) (left_free_bytes r)
-      ∙ ap (λ (n : ℕ). free_bytes p (from p r) (upto p r) + n) (given_gone r)
+  more_free r = rw (same_from p S t key top other r, same_upto p S t key top other r) (K r).more_free
+      ∙ ap (λ (n : ℕ). free_bytes p (from p r) (upto p r) + n) (sym (total_same (gone_size p (ended p t key) r) (given_size p (tree p t) (extra (base p Jobs t / 4) r)) (blocks p r) (gone_is_given r)))
 
   pub takes : Takes p (ended p t key) t
   takes = record {
     jobs = λ k u w. gone Jobs k (used_below p Jobs k u) (tree_has p O t k u w);
-    channels = λ k u M. gone Channels k (used_below p Channels k u) (member_channel p S t key top other k u M);
+    channels = λ k u M. gone Channels k (used_below p Channels k u) (member_channel p S t top other k u M);
     freed = freed;
     old_entries = old_entry;
     old_blocks = old_block;

@@ -1,5 +1,4 @@
--- Demand 2 (rules 80 and 81): "Ending a job takes that job, its descendants and what they own, and no more": their job blocks, plain blocks, channels, and the queues
--- that are left without an end. A queue with an end outside the tree stays.
+-- Demand 2 (rules 80 and 81): "Ending a job takes that job, its descendants and what they own, and no more": their job blocks, plain blocks, channels and queue blocks.
 -- p is the picture before, q the picture after the tree of the job at position t was ended with the key to deliver.
 use Rattle.std.specs.Prelude.{ℕ, ◌+◌, ◌*◌, ◌/◌, ◌≤◌, ◌<◌, ◌≡◌, Bool, true, false, ◌&&◌, not, cond, ◌⊎◌, List, eqb, pos}
 use Rattle.words.specs.Words.{word}
@@ -10,10 +9,8 @@ use Rattle.picture.specs.Numbers.{position, live}
 use Rattle.picture.specs.declared.Table.{Table}
 use Rattle.picture.specs.declared.Table.TheVariants.{Jobs, Channels}
 use Rattle.picture.specs.declared.Area.{Area}
-use Rattle.picture.specs.declared.Area.TheVariants.{Heap}
-use Rattle.blocks.specs.Header.{header_width, holder_field, queue_kind, size, kind, free, holder}
+use Rattle.blocks.specs.Header.{header_width, size, kind, free, holder}
 use Rattle.blocks.specs.Walk.{blocks}
-use Rattle.ends.specs.Ends.{leads}
 use Rattle.law_areas.specs.Area.{free_bytes}
 use Rattle.law_owners.specs.Under.{Under}
 
@@ -28,27 +25,11 @@ pub record Woken (q : List ℕ) (k key : ℕ) : Type 0 where
   pub wait : waited_for q k ≡ 0
   pub gets : delivered q k ≡ key
 
--- the channel at position k is an end of the queue at i
-pub record End (p : List ℕ) (i k : ℕ) : Type 0 where
-  pub lives : used p Channels k ≡ true
-  pub place : base p Channels k ≡ 4 * i
-
--- the queue at i has no end outside the tree
-abbrev pub EndsInTheTree : List ℕ → ℕ → ℕ → Type 0
-EndsInTheTree p t i = (k : ℕ) → End p i k → Member p t (owner p Channels k)
-
--- the block in use at i is of the tree: a queue without an end outside it, another block that a member owns, or the top's own job block
+-- the block in use at i is of the tree: a member owns it, or it is the top's own job block
 abbrev pub OfTheTree : List ℕ → ℕ → ℕ → Type 0
-OfTheTree p t i = ((kind p i ≡ queue_kind) × EndsInTheTree p t i) ⊎ (((kind p i ≡ queue_kind → ⊥) × Member p t (holder p i)) ⊎ (base p Jobs t ≡ 4 * i))
+OfTheTree p t i = Member p t (holder p i) ⊎ (base p Jobs t ≡ 4 * i)
 
--- the longword k is the owner's in the header of a queue at i that a member owns: if the queue stays, this longword may change
-pub record HandedOn (p : List ℕ) (t i k : ℕ) : Type 0 where
-  pub its_owner : k ≡ i + holder_field
-  pub queue : kind p i ≡ queue_kind
-  pub of_a_member : Member p t (holder p i)
-
--- every entry whose owner is outside the tree and every block that isn't of the tree is, longword for longword, what it was, but for a waiter, for free headers,
--- and for the owner of a queue that is handed on
+-- every entry and block whose owner is outside the tree is, longword for longword, what it was, but for a waiter and for free headers
 pub record Leaves (p q : List ℕ) (t key : ℕ) : Type 0 where
   pub jobs_stay : (k : ℕ) → used p Jobs k ≡ true → (Under p t k → ⊥) → used q Jobs k ≡ true
   pub channels_stay : (k : ℕ) → used p Channels k ≡ true → (Member p t (owner p Channels k) → ⊥) → used q Channels k ≡ true
@@ -57,8 +38,7 @@ pub record Leaves (p q : List ℕ) (t key : ℕ) : Type 0 where
   pub waiters : (k : ℕ) → used p Jobs k ≡ true → (Under p t k → ⊥) → Member p t (waited_for p k) → Woken q k key
   pub others : (k f : ℕ) → used p Jobs k ≡ true → (Under p t k → ⊥) → (Member p t (waited_for p k) → ⊥) → f < width Jobs → field q Jobs k f ≡ field p Jobs k f
   pub blocks_stay : (r : Area) (i : ℕ) → In i (blocks p r) → free p i ≡ false → (OfTheTree p t i → ⊥) → In i (blocks q r)
-  pub block_longwords : (r : Area) (i : ℕ) → In i (blocks p r) → free p i ≡ false → (OfTheTree p t i → ⊥) → (k : ℕ) → i ≤ k → k < i + size p i / 4 → (HandedOn p t i k → ⊥) → word q k ≡ word p k
-  pub handed_on : (i k : ℕ) → In i (blocks p Heap) → kind p i ≡ queue_kind → leads q k ≡ true → End q i k → holder q i ≡ owner p Channels k
+  pub block_longwords : (r : Area) (i : ℕ) → In i (blocks p r) → free p i ≡ false → (OfTheTree p t i → ⊥) → (k : ℕ) → i ≤ k → k < i + size p i / 4 → word q k ≡ word p k
   pub rooms : (r : Area) (i : ℕ) → In i (blocks p r) → (k : ℕ) → i + header_width ≤ k → k < i + size p i / 4 → word q k ≡ word p k
   -- no tag is given, and the areas lie where they did
   pub tags : (s : Table) → word q (last_word s) ≡ word p (last_word s)
@@ -77,14 +57,15 @@ pub record OldEntry (p q : List ℕ) (s : Table) (k : ℕ) : Type 0 where
   pub same_owner : owner q s k ≡ owner p s k
   pub same_base : base q s k ≡ base p s k
 
--- a block that was in use before at the same place, with the same length, kind and every longword but the owner of a queue that is handed on, and isn't of the tree
+-- a block that was in use before at the same place, with the same length, kind, owner and every longword, and isn't of the tree
 pub record OldBlock (p q : List ℕ) (t : ℕ) (r : Area) (i : ℕ) : Type 0 where
   pub was_there : In i (blocks p r)
   pub was_used : free p i ≡ false
   pub outside : OfTheTree p t i → ⊥
   pub same_length : size q i ≡ size p i
   pub same_kind : kind q i ≡ kind p i
-  pub same_longwords : (k : ℕ) → i ≤ k → k < i + size p i / 4 → (HandedOn p t i k → ⊥) → word q k ≡ word p k
+  pub same_owner : holder q i ≡ holder p i
+  pub same_longwords : (k : ℕ) → i ≤ k → k < i + size p i / 4 → word q k ≡ word p k
 
 -- the longword k lies in a free block of the area
 pub record Free (q : List ℕ) (r : Area) (k : ℕ) : Type 0 where

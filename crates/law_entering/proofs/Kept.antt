@@ -20,10 +20,10 @@ use Rattle.picture.proofs.Members.{Holds, Spares, holds_low, spares_past, spares
 use Rattle.headers.specs.Header.{Outside}
 use Rattle.headers.proofs.Header.{same_or_not}
 use Rattle.masks.proofs.Masks.{with_bit_here, with_bit_other}
-use Rattle.sound_matching.specs.Match.{first, ordinary}
+use Rattle.sound_matching.specs.Match.{first, has_block}
 use Rattle.sound_records.specs.Rules.{may_be_unowned}
 use Rattle.sound_facts.proofs.Sound.{Owned, Entries}
-use Rattle.sound_matching.proofs.Entries.{ordinary_is_used}
+use Rattle.sound_facts.proofs.View.{has_block_used}
 use Rattle.sound_facts.proofs.Same.{live_same, Lives, owned_kept, EntriesSame}
 use Rattle.sound_facts.proofs.Ages.{Ages, ages_same}
 use Rattle.law_entering.proofs.Written.{Entered, Places, places}
@@ -167,13 +167,13 @@ module _ (p q : List ℕ) (t : Table) (k g o b : ℕ) (E : Entered p q t k g o b
         omega arith
 
     pub entering_keeps_the_records : Entries p t → g ≤ greatest_tag → Owned q (may_be_unowned t) o → Entries q t
-    unfolding ordinary
+    unfolding has_block
     entering_keeps_the_records F most owned = record {
       unused = λ j f l m u. let n : j ≡ k → ⊥ = λ e. false_true (sym u ∙ ap (used q t) e ∙ used_here) in field_old j f l m n ∙ F.unused j f l m (sym (used_other j l n) ∙ u);
       place = λ j u. old j u (λ x. position (number q t x) ≡ x) (rw E.its_number (number_position g k small)) (λ n v. rw (number_old j (used_below q t j u) n) (F.place j v));
-      tagged = λ j c. old j (ordinary_is_used q t j c) (λ x. (1 ≤ tag (number q t x)) × (tag (number q t x) ≤ greatest_tag))
+      tagged = λ j c. old j (has_block_used q t j c) (λ x. (1 ≤ tag (number q t x)) × (tag (number q t x) ≤ greatest_tag))
           (rw (E.its_number, number_tag g k small) (omega arith, most))
-          (λ n v. rw (number_old j (used_below q t j (ordinary_is_used q t j c)) n) (F.tagged j (ordinary_before j c v)));
+          (λ n v. rw (number_old j (used_below q t j (has_block_used q t j c)) n) (F.tagged j (block_matched j c v)));
       once = λ i j u v e. ⊎_elim
           (λ (x : i ≡ k). ⊎_elim (λ (y : j ≡ k). x ∙ sym y) (λ (y : (j ≡ k → ⊥) × (used p t j ≡ true)). absurd (younger j i y.1 y.0 x (sym e))) (new_or_old j v))
           (λ (x : (i ≡ k → ⊥) × (used p t i ≡ true)). ⊎_elim
@@ -192,8 +192,8 @@ module _ (p q : List ℕ) (t : Table) (k g o b : ℕ) (E : Entered p q t k g o b
         old : (j : ℕ) → used q t j ≡ true → (P : ℕ → Type 0) → P k → ((j ≡ k → ⊥) → used p t j ≡ true → P j) → P j
         old j u P here there = ⊎_elim (λ (e : j ≡ k). subst P (sym e) here) (λ v. there v.0 v.1) (new_or_old j u)
 
-        ordinary_before : (j : ℕ) → ordinary q t j ≡ true → used p t j ≡ true → ordinary p t j ≡ true
-        ordinary_before j c u = rw ((both (leb (first t) j) (used q t j) c).0, u)
+        block_matched : (j : ℕ) → has_block q t j ≡ true → used p t j ≡ true → has_block p t j ≡ true
+        block_matched j c u = rw ((both (leb (first t) j) (used q t j) c).0, u)
 
         -- an old entry's tag is below the new one's
         younger : (i j : ℕ) → used p t i ≡ true → (i ≡ k → ⊥) → j ≡ k → tag (number q t i) ≡ tag (number q t j) → ⊥

@@ -20,7 +20,7 @@ use Rattle.freeing.specs.Sweep.{named, goes}
 use Rattle.law_freeing.proofs.Goes.{the_block_at_that_place_goes, a_block_owned_from_outside_stays}
 use Rattle.law_freeing.specs.Swept.{given_size, given_bytes}
 
-pub no_bit : (k : ℕ) → bit 0 k ≡ false
+no_bit : (k : ℕ) → bit 0 k ≡ false
 no_bit k = let z : 0 / 2 ^ k ≡ 0 = div-eq_of_lt (pow_pos k) in rw z
 
 none_named : (o : ℕ) → named 0 o ≡ false

@@ -1,4 +1,4 @@
--- Document 01 (rule 99): "Freeing merges with free neighbours in the area; an absorbed header becomes four zeros, other old bytes stay."
+-- Document 01 (rule 98): "Freeing merges with free neighbours in the area; an absorbed header becomes four zeros, other old bytes stay."
 -- Here one block of the area from base to e is given back, the one at i.
 use Rattle.std.specs.Prelude.{ℕ, ◌-◌, ◌*◌, ◌&&◌, cond, List, [], ◌∷◌, ltb, eqb}
 use Rattle.blocks.specs.Header.{free}

@@ -1,4 +1,4 @@
--- Rule 99 in words: what giving blocks back in an area leaves. An area is the longwords from base up to e.
+-- Rule 98 in words: what giving blocks back in an area leaves. An area is the longwords from base up to e.
 use Rattle.std.specs.Prelude.{ℕ, ◌+◌, ◌/◌, ◌≤◌, ◌<◌, ◌≡◌, false, cond, List, length}
 use Rattle.words.specs.Words.{word}
 use Rattle.words.specs.Each.{In, total}

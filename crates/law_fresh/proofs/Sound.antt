@@ -23,8 +23,7 @@ use Rattle.picture.proofs.Members.{Holds, Spares, holds_low, spares_size, spares
 use Rattle.blocks.specs.Header.{header_width, kind_field, holder_field, start_field, size, kind, kind_of}
 use Rattle.blocks.specs.Walk.{good, next, starts, blocks}
 use Rattle.blocks.proofs.Walk.{Good, good_is, next_good, starts_end, starts_more}
-use Rattle.sound_matching.specs.Match.{area_of, ordinary, has_block}
-use Rattle.sound_matching.proofs.Entries.{ordinary_is_used, has_block_used, has_block_ordinary}
+use Rattle.sound_matching.specs.Match.{first, area_of, has_block}
 use Rattle.sound_matching.proofs.Counts.{Matches}
 use Rattle.sound_matching.proofs.Matched.{Matched}
 use Rattle.sound.specs.Sound.{sound}
@@ -212,13 +211,10 @@ module _ (n h : ℕ) (g : Sizes n n h) where
           let v : next q i (upto q a) ≡ upto q a = ap (λ (j : ℕ). next q j (upto q a)) e ∙ next_good q (from q a) (upto q a) w ∙ y in
           omega arith
 
-  job_zero_alone : (k : ℕ) → ordinary q Jobs k ≡ true → ⊥
-  unfolding ordinary
-  job_zero_alone k c = let b = both (leb 1 k) (used q Jobs k) c in let l = leb-true 1 k b.0 in let z = jobs_used k b.1 in omega arith
-
   nothing_has_block : (t : Table) (k : ℕ) → has_block q t k ≡ true → ⊥
-  nothing_has_block Jobs k c = job_zero_alone k (has_block_ordinary q Jobs k c)
-  nothing_has_block Channels k c = no_channel k (has_block_used q Channels k c)
+  unfolding has_block
+  nothing_has_block Jobs k c = let b = both (leb 1 k) (used q Jobs k) c in let l = leb-true 1 k b.0 in let z = jobs_used k b.1 in omega arith
+  nothing_has_block Channels k c = no_channel k (both (leb 0 k) (used q Channels k) c).1
 
   kind_positive : (t : Table) → kind_of t ≡ 0 → ⊥
   kind_positive Jobs e = omega arith
@@ -238,7 +234,7 @@ module _ (n h : ℕ) (g : Sizes n n h) where
         (λ (o : k ≤ 0). let z : k ≡ 0 = omega arith in absurd (false_true (sym (subst (λ (x : ℕ). used q Jobs x ≡ false) z u) ∙ zero_used)))
         (lt_or_ge 0 k);
     place = λ k u. let z = jobs_used k u in rw (z, field_zero 0 number_field (omega arith) (omega arith) (λ e. omega arith) (λ e. omega arith));
-    tagged = λ k c. absurd (job_zero_alone k c);
+    tagged = λ k c. absurd (nothing_has_block Jobs k c);
     once = λ j k u v e. let y = jobs_used j u in let z = jobs_used k v in omega arith;
     owned = λ k u. let z = jobs_used k u in inl (refl, rw z at.owner);
     given = λ k u. let z = jobs_used k u in rw (z, field_zero 0 number_field (omega arith) (omega arith) (λ e. omega arith) (λ e. omega arith)) (omega arith);
@@ -248,7 +244,7 @@ module _ (n h : ℕ) (g : Sizes n n h) where
   channel_entries = record {
     unused = λ k f l m u. blank_field Channels k f l m (λ e. omega arith) (λ e. omega arith);
     place = λ k u. absurd (no_channel k u);
-    tagged = λ k c. absurd (no_channel k (ordinary_is_used q Channels k c));
+    tagged = λ k c. absurd (nothing_has_block Channels k c);
     once = λ j k u v e. absurd (no_channel j u);
     owned = λ k u. absurd (no_channel k u);
     given = λ k u. absurd (no_channel k u);
@@ -290,7 +286,7 @@ module _ (n h : ℕ) (g : Sizes n n h) where
           waits = λ k l. inl (f k wait_field l (omega arith) (λ e. omega arith) (λ e. omega arith));
           idle = λ k l. inl (f k accumulated_field l (omega arith) (λ e. omega arith) (λ e. omega arith));
         };
-        channels = record { entries = channel_entries; known = λ k u. absurd (no_channel k u) };
+        channels = record { entries = channel_entries; one = λ k u. absurd (no_channel k u) };
         tiled = tiled;
         matched = matched;
         current = inr current;

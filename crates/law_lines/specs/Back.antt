@@ -1,4 +1,4 @@
--- What is written is read back as the same numbers (rule 118): the statements.
+-- What is written is read back as the same numbers (rule 117): the statements.
 use Rattle.std.specs.Prelude.{◌≡◌, List, ℕ, ◌+◌, ◌*◌, ◌^◌, ◌≤◌, ◌<◌, length, get_or}
 use Rattle.program_digits.specs.declared.Read.TheVariants.{Number}
 use Rattle.program_digits.specs.Digits.{read, numbers}

@@ -1,43 +1,46 @@
--- Opening an output keeps a sound picture sound, and the number that it gives has a new tag.
-use Prim.Native.Nat.{ℕ, ◌+◌, ◌/◌, ◌≤◌, ◌<◌}
+-- Opening a channel keeps a sound picture sound, and the number that it gives has a new tag.
+use Prim.Native.Nat.{ℕ, ◌+◌, ◌-◌, ◌*◌, ◌/◌, ◌≤◌, ◌<◌}
 use mathlib.Core.Path.{◌≡◌, refl, sym, ap, ◌∙◌, subst}
-use mathlib.Core.Bool.{true, false}
-use mathlib.Core.Logic.{⊎_elim, inl, inr}
+use mathlib.Core.Bool.{Bool, true, false, ◌&&◌}
+use mathlib.Core.Logic.{⊎_elim, ◌⊎◌, inl, inr}
 use mathlib.Core.List.{List}
+use lib.Dec.{leb}
 use native.Mathlib.Omega.{arith}
-use borrow.Author.Tests.{eqb-true, eq-eqb}
+use borrow.Author.Tests.{le-leb, eqb-true}
 use Rattle.words.specs.Words.{word}
 use Rattle.words.specs.Each.{In}
-use Rattle.picture.specs.Layout.{positions}
-use Rattle.picture.specs.Records.{base}
-use Rattle.picture.specs.Numbers.{free_position, live}
+use Rattle.words.proofs.Tests.{both, false_true}
+use Rattle.picture.specs.Layout.{last_word, positions, width, first_record}
+use Rattle.picture.specs.Records.{slot, field, number, owner, base, ending, used, base_field, owner_field, ending_field, number_field, members}
+use Rattle.picture.specs.Numbers.{live}
 use Rattle.picture.specs.declared.Table.{Table}
 use Rattle.picture.specs.declared.Table.TheVariants.{Jobs, Channels}
 use Rattle.picture.specs.declared.Area.TheVariants.{Heap, Transient}
-use Rattle.blocks.specs.Header.{size, kind, kind_of, queue_kind, free, queue_count, queue_count_field}
+use Rattle.picture.proofs.Records.{used_below}
+use Rattle.picture.proofs.Members.{Spares, holds_low, members_same}
+use Rattle.blocks.specs.Header.{kind, kind_of, queue_kind, free}
 use Rattle.blocks.specs.Walk.{blocks}
-use Rattle.ends.specs.Ends.{output_end, queue_of, is_output, leads}
-use Rattle.ends.proofs.Ends.{leads_used, output_leads}
-use Rattle.sound_matching.specs.Match.{area_of, has_block}
+use Rattle.sound_matching.specs.Match.{first, area_of, has_block}
 use Rattle.sound_matching.proofs.Counts.{Matches}
-use Rattle.sound_matching.proofs.Ruled.{leads_has_block, each_end_has_its_queue}
+use Rattle.sound_matching.proofs.Matched.{Matched}
 use Rattle.sound_areas.specs.Rules.{longest_queue}
 use Rattle.sound.specs.Sound.{sound}
-use Rattle.sound_facts.proofs.Sound.{Sound}
-use Rattle.sound_facts.proofs.Same.{Lives}
-use Rattle.sound_facts.proofs.Ages.{Ages}
+use Rattle.sound_facts.proofs.Sound.{Sizes, Entries, Jobs_fine, Channels_fine, Sound}
+use Rattle.sound_facts.proofs.View.{sound_again, has_block_used}
+use Rattle.sound_facts.proofs.Same.{used_same, has_block_same, live_same, Lives, EntriesSame, entries_same}
+use Rattle.sound_facts.proofs.Ages.{Ages, ages_same, ages_then}
+use Rattle.sound_facts.proofs.Jobs.{JobsSame, jobs_live, jobs_age, jobs_kept, current_kept}
+use Rattle.sound_facts.proofs.Sizes.{Fixed, sizes_kept}
 use Rattle.rooms.specs.Room.{header_byte}
 use Rattle.rooms.proofs.Room.{has_room}
-use Rattle.entering.specs.Entry.{has_position, has_tag}
-use Rattle.law_blocks.proofs.Tables.{TablesSame}
+use Rattle.entering.specs.Entry.{has_position, has_tag, next_tag}
+use Rattle.law_entering.proofs.Written.{Entered}
+use Rattle.law_entering.proofs.Kept.{field_old, used_here, another, new_or_old, still_used, lives_in_both, entering_ages, entering_keeps_the_records}
 use Rattle.law_blocks.proofs.Moved.{Fine}
 use Rattle.law_blocks.proofs.Change.{change_tiled, change_standing, change_homes}
 use Rattle.law_blocks.proofs.Placing.{None, Only}
-use Rattle.law_blocks.proofs.Intact.{Intact, change_keeps_every_other_block}
-use Rattle.law_blocks.proofs.Matching.{Still, Rematched, still_matched}
-use Rattle.opening.specs.Effects.{queue_bytes, queued, opened}
-use Rattle.law_opening.proofs.Entry.{OneMore}
-use Rattle.law_opening.proofs.Entry as entry
+use Rattle.law_blocks.proofs.Matching.{Still, Stands, Rematched, still_matched}
+use Rattle.opening.specs.Effects.{queue_bytes, opened}
 use Rattle.law_opening.proofs.Opened as the
 
 no_channel : Jobs ≡ Channels → ⊥
@@ -46,65 +49,148 @@ no_channel x = let z : ◌≡◌ {A = ℕ} 0 1 = cc in omega arith
 elsewhere : Heap ≡ Transient → ⊥
 elsewhere x = let z : ◌≡◌ {A = ℕ} 0 1 = cc in omega arith
 
-module _ (p : List ℕ) (o n : ℕ) (h : sound p ≡ true) (fp : has_position p Channels ≡ true) (tg : has_tag p Channels ≡ true) (rm : has_room p Heap (queue_bytes n) ≡ true) where
+module _ (p : List ℕ) (o n : ℕ) (h : sound p ≡ true) (fp : has_position p Channels ≡ true) (tg : has_tag p Channels ≡ true) (rm : has_room p Heap (queue_bytes n) ≡ true)
+    (lives-owner : live p Jobs o ≡ true) (some : 1 ≤ n) (most : n ≤ longest_queue) where
   abbrev q : List ℕ
-  q = the.q p o n h fp tg rm
+  q = opened p o n
 
-  abbrev r : List ℕ
-  r = the.r p o n h fp tg rm
+  abbrev e : List ℕ
+  e = the.e p o n h fp tg rm
 
   abbrev k : ℕ
-  k = free_position p Channels
+  k = the.k p o n h fp tg rm
 
   abbrev at : ℕ
   at = the.at p o n h fp tg rm
 
+  abbrev g : ℕ
+  g = next_tag p Channels
+
   S : Sound p
   S = the.S p o n h fp tg rm
 
-  T : TablesSame p r
-  T = the.r_tables p o n h fp tg rm
+  E : Entered p e Channels k g o (header_byte at)
+  E = the.entry p o n h fp tg rm
+
+  there : k < positions Channels
+  there = the.there p o n h fp tg rm
+
+  vacant : used p Channels k ≡ false
+  vacant = the.vacant p o n h fp tg rm
+
+  J : JobsSame p q
+  J = the.jobs_same p o n h fp tg rm
 
   lives : Lives p q
-  lives = entry.lives p r o (header_byte at) output_end h fp tg T
+  lives = jobs_live p q J
 
-  no_queue : kind p at ≡ queue_kind → ⊥
-  no_queue w = let f : kind p at ≡ 0 = eqb-true _ _ (the.at_free p o n h fp tg rm) in omega arith
+  -- from the entry to its last longword
+  step : (j : ℕ) → (j ≡ slot Channels k + ending_field → ⊥) → word q j ≡ word e j
+  step = the.q_other p o n h fp tg rm
+
+  mask_step : members q Channels ≡ members e Channels
+  mask_step = members_same e q Channels (λ j x. let l = holds_low Channels j x in step j (λ y. omega arith))
+
+  last_step : word q (last_word Channels) ≡ word e (last_word Channels)
+  last_step = step (last_word Channels) (λ x. omega arith)
+
+  field_step : (j f : ℕ) → f ≤ base_field → field q Channels j f ≡ field e Channels j f
+  field_step j f l = step (slot Channels j + f) (λ x. omega arith)
+
+  field_else : (j f : ℕ) → f < width Channels → (j ≡ k → ⊥) → field q Channels j f ≡ field e Channels j f
+  field_else j f l m = step (slot Channels j + f) (λ x. m (omega arith))
+
+  used_step : (j : ℕ) → used q Channels j ≡ used e Channels j
+  used_step = used_same e q Channels mask_step
+
+  -- the records of channels
+  e_lives : Lives p e
+  e_lives = lives_in_both p e Channels k g o (header_byte at) E there vacant Jobs
+
+  e_entries : Entries e Channels
+  e_entries = entering_keeps_the_records p e Channels k g o (header_byte at) E there vacant (omega arith) S.channels.entries (the.tag_left p o n h fp tg rm) (inr (e_lives o lives-owner))
+
+  lives_step : Lives e q
+  lives_step m x = live_same e q Jobs (members_same e q Jobs (λ j x. let l = holds_low Jobs j x in step j (λ y. omega arith))) (λ j l. step (slot Jobs j + number_field) (λ y. omega arith)) m ∙ x
+
+  used_new : used q Channels k ≡ true
+  used_new = used_step k ∙ used_here p e Channels k g o (header_byte at) E there vacant
+
+  entries : Entries q Channels
+  entries = entries_same e q Channels
+      (record { mask = mask_step; last = last_step; numbers = λ j l. field_step j number_field (omega arith); owners = λ j l. field_step j owner_field (omega arith) })
+      lives_step
+      (λ j f l m u. field_else j f m (λ x. false_true (sym u ∙ ap (used q Channels) x ∙ used_new)) ∙ e_entries.unused j f l m (sym (used_step j) ∙ u))
+      e_entries
+
+  cases : (j : ℕ) → used q Channels j ≡ true → (j ≡ k) ⊎ ((j ≡ k → ⊥) × (used p Channels j ≡ true))
+  cases j u = new_or_old p e Channels k g o (header_byte at) E there vacant j (sym (used_step j) ∙ u)
+
+  pub old : (j f : ℕ) → j < positions Channels → f < width Channels → (j ≡ k → ⊥) → field q Channels j f ≡ field p Channels j f
+  old j f l m x = field_else j f m x ∙ field_old p e Channels k g o (header_byte at) E there vacant j f l m x
+
+  channels : Channels_fine q
+  channels = record {
+    entries = entries;
+    one = λ j u. ⊎_elim
+        (λ (x : j ≡ k). rw x (the.q_one p o n h fp tg rm))
+        (λ (v : (j ≡ k → ⊥) × (used p Channels j ≡ true)). old j ending_field (used_below p Channels j v.1) (omega arith) v.0 ∙ S.channels.one j v.1)
+        (cases j u);
+  }
+
+  -- the new block
+  fine : (i : ℕ) → i ≡ at → Fine q Heap i
+  fine i x = rw x (record {
+    fits = let z = the.at_kind p o n h fp tg rm in omega arith;
+    starts_zero = inr (the.at_start p o n h fp tg rm);
+    queue = λ z. the.at_queue p o n h fp tg rm some most;
+    held = inr (rw (the.at_holder p o n h fp tg rm) (lives o lives-owner));
+  })
 
   -- the new entry and the new block
   abbrev Pair : Table → ℕ → ℕ → Type 0
   Pair t j x = (t ≡ Channels) × ((j ≡ k) × (x ≡ at))
 
-  -- a block that was free was no queue
-  aside : (j : ℕ) → leads p j ≡ true → is_output p j ≡ false → base p Channels j ≡ header_byte at → ⊥
-  aside j l a e =
-      let s = each_end_has_its_queue p (S.matched Channels) j (leads_used p j l) in
-      let x = s.1.1.1 in
-      let y : s.0 ≡ at = omega arith in
-      no_queue (subst (λ (i : ℕ). kind p i ≡ queue_kind) y s.1.1.0)
+  has_block_there : (j : ℕ) → has_block q Channels j ≡ true → used p Channels j ≡ true → has_block p Channels j ≡ true
+  unfolding has_block
+  has_block_there j c u = rw ((both (leb (first Channels) j) (used q Channels j) c).0, u)
 
   still : (t : Table) (j : ℕ) → j < positions t → has_block p t j ≡ true → Still p q t j
-  still = entry.still p r o (header_byte at) output_end h fp tg T aside
+  unfolding has_block
+  still Channels j l x =
+      let u = has_block_used p Channels j x in
+      let m = another p e Channels k g o (header_byte at) E there vacant j u in
+      record {
+        before = x;
+        now_too = rw ((both (leb (first Channels) j) (used p Channels j) x).0, used_step j ∙ still_used p e Channels k g o (header_byte at) E there vacant j u);
+        base_as_was = old j base_field l (omega arith) m;
+        owner_as_was = old j owner_field l (omega arith) m;
+      }
+  still Jobs j l x = record { before = x; now_too = has_block_same p q Jobs J.mask j ∙ x; base_as_was = J.fields j base_field l (omega arith); owner_as_was = J.fields j owner_field l (omega arith) }
+
+  entries_by : (t : Table) (j : ℕ) → j < positions t → has_block q t j ≡ true → Still p q t j ⊎ ((i : ℕ) × Pair t j i)
+  entries_by Channels j l x = ⊎_elim
+      (λ (y : j ≡ k). inr (at, (refl, (y, refl))))
+      (λ (v : (j ≡ k → ⊥) × (used p Channels j ≡ true)). inl (still Channels j l (has_block_there j x v.1)))
+      (cases j (has_block_used q Channels j x))
+  entries_by Jobs j l x = inl (still Jobs j l (sym (has_block_same p q Jobs J.mask j) ∙ x))
 
   new_block : (t : Table) (i : ℕ) → (Heap ≡ area_of t) × (i ≡ at) → (j : ℕ) × Pair t j i
   new_block Channels i x = (k, (refl, (refl, x.1)))
   new_block Jobs i x = absurd (elsewhere x.0)
 
-  new_is_output : is_output q k ≡ true
-  unfolding is_output
-  new_is_output = eq-eqb _ _ (entry.its_ending p r o (header_byte at) output_end h fp tg T)
-
-  pair : Matches q Channels k at
+  pub pair : Matches q Channels k at
+  unfolding has_block
   pair = record {
-    has = leads_has_block q k (output_leads q k (entry.used_new p r o (header_byte at) output_end h fp tg T) new_is_output);
+    has = rw (le-leb 0 k (omega arith), used_new);
     sorts = the.at_kind p o n h fp tg rm;
-    place = entry.its_base p r o (header_byte at) output_end h fp tg T;
-    held = entry.its_owner p r o (header_byte at) output_end h fp tg T ∙ sym (the.at_holder p o n h fp tg rm);
+    place = field_step k base_field (omega arith) ∙ E.its_base;
+    held = field_step k owner_field (omega arith) ∙ E.its_owner ∙ sym (the.at_holder p o n h fp tg rm);
   }
 
   rematched : (t : Table) → Rematched p q t (Pair t)
   rematched t = record {
-    entries = λ j l x. ⊎_elim inl (λ y. inr (at, (y.0, (y.1, refl)))) (entry.entries_by p r o (header_byte at) output_end h fp tg T aside t j l x);
+    entries = entries_by t;
     homes = λ j i s m w. ⊎_elim (λ b. b) (λ (x : (Heap ≡ area_of t) × None i). absurd x.1) (change_homes p q Heap (Only at) None (the.change p o n h fp tg rm) (the.lies p o n h fp tg rm) S.tiled t i m w.sorts);
     standing = λ i m z. ⊎_elim inl (λ x. inr (new_block t i x)) (change_standing p q Heap (Only at) None (the.change p o n h fp tg rm) (the.lies p o n h fp tg rm) S.tiled t i m z);
     heirs = λ j i l b w. still t j l w.has;
@@ -114,48 +200,28 @@ module _ (p : List ℕ) (o n : ℕ) (h : sound p ≡ true) (fp : has_position p 
   }
     where
       own : (t : Table) (j i : ℕ) → Pair t j i → (j < positions t) × (In i (blocks q (area_of t)) × Matches q t j i)
-      own Channels j i x = rw (x.1.0, x.1.1) (entry.there p r o (header_byte at) output_end h fp tg T, (the.at_there p o n h fp tg rm, pair))
+      own Channels j i x = rw (x.1.0, x.1.1) (there, (the.at_there p o n h fp tg rm, pair))
       own Jobs j i x = absurd (no_channel x.0)
 
       taken : (t : Table) (i : ℕ) → t ≡ Channels → i ≡ at → kind p i ≡ kind_of t → ⊥
-      taken Channels i x y z = no_queue (rw y at z)
+      taken Channels i x y z = let f : kind p at ≡ 0 = eqb-true _ _ (the.at_free p o n h fp tg rm) in let w : kind p at ≡ queue_kind = rw y at z in omega arith
       taken Jobs i x y z = no_channel x
 
+  low : (j : ℕ) → j < first_record Channels → Spares Channels j → (j ≡ last_word Channels → ⊥) → word q j ≡ word p j
+  low = the.q_low p o n h fp tg rm
+
+  pub opened_sound : sound (opened p o n) ≡ true
+  opened_sound = sound_again q (record {
+    sizes = sizes_kept p q (the.q_long p o n h fp tg rm) (λ i (x : Fixed i). let l = x.low in low i (omega arith) (x.spared Channels) (x.no_tag Channels))
+        (elim [ Jobs ↦ rw J.last (S.sizes.last Jobs) | Channels ↦ rw (last_step, E.last) (the.tag_left p o n h fp tg rm) ])
+        S.sizes;
+    jobs = jobs_kept p q J S.jobs;
+    channels = channels;
+    tiled = change_tiled p q Heap (Only at) None (the.change p o n h fp tg rm) (the.lies p o n h fp tg rm) S.tiled lives fine;
+    matched = λ t. still_matched p q t (Pair t) (rematched t) (S.matched t);
+    current = current_kept p q J S.current;
+  })
+
   pub opened_ages : (t : Table) → Ages p (opened p o n) t
-  unfolding opened queued
-  opened_ages = entry.entry_ages p r o (header_byte at) output_end h fp tg T
-
-  pub opened_is_one_more : OneMore p (opened p o n) o
-  unfolding opened queued
-  opened_is_one_more = entry.one_more p r o (header_byte at) output_end h fp tg T
-
-  -- every other block of the heap keeps its longwords, and the new queue holds nothing
-  pub others_stay : (i : ℕ) → In i (blocks p Heap) → free p i ≡ false → (w : ℕ) → i ≤ w → w < i + size p i / 4 → word (opened p o n) w ≡ word p w
-  unfolding opened queued
-  others_stay i m f = ⊎_elim
-      (λ (x : (Heap ≡ Heap) × None i). absurd x.1)
-      (λ (x : Intact p q Heap i). x.same)
-      (change_keeps_every_other_block p q Heap (Only at) None (the.change p o n h fp tg rm) (the.lies p o n h fp tg rm) S.tiled Heap i m f)
-
-  pub its_count : queue_count (opened p o n) (queue_of (opened p o n) (free_position p Channels)) ≡ 0
-  unfolding opened queued
-  its_count =
-      let w = pair.place in
-      let y : queue_of q k ≡ at = omega arith in
-      ap (queue_count q) y ∙ the.at_room p o n h fp tg rm queue_count_field (omega arith) (omega arith)
-
-  module _ (lives-owner : live p Jobs o ≡ true) (some : 1 ≤ n) (most : n ≤ longest_queue) where
-    -- the new block
-    fine : (i : ℕ) → i ≡ at → Fine q Heap i
-    fine i x = rw x (record {
-      fits = let z = the.at_kind p o n h fp tg rm in omega arith;
-      starts_zero = inr (the.at_start p o n h fp tg rm);
-      queue = λ z. the.at_queue p o n h fp tg rm some most;
-      held = inr (rw (the.at_holder p o n h fp tg rm) (lives o lives-owner));
-    })
-
-    pub opened_sound : sound (opened p o n) ≡ true
-    unfolding opened queued
-    opened_sound = entry.sound_with_the_entry p r o (header_byte at) output_end h fp tg T lives-owner (inl refl)
-        (change_tiled p q Heap (Only at) None (the.change p o n h fp tg rm) (the.lies p o n h fp tg rm) S.tiled lives fine)
-        (λ t. still_matched p q t (Pair t) (rematched t) (S.matched t))
+  opened_ages Jobs = jobs_age p q J
+  opened_ages Channels = ages_then p e q Channels (entering_ages p e Channels k g o (header_byte at) E there vacant (omega arith) Channels) (ages_same e q Channels last_step mask_step (λ j l. field_step j number_field (omega arith)))

@@ -1,10 +1,7 @@
 -- What opening a channel keeps.
 pub mod Ways
 pub mod Room
-pub mod Entry
-pub mod Joined
 pub mod Opened
 pub mod Kept
 pub mod Open
 pub mod Queues
-pub mod Ends

@@ -1,43 +1,49 @@
--- An output opened in a sound picture: its block, and what has changed.
-use Prim.Native.Nat.{ℕ, ◌+◌, ◌/◌, ◌%◌, ◌≤◌, ◌<◌}
-use mathlib.Core.Path.{◌≡◌, sym, ◌∙◌, subst}
-use mathlib.Core.Bool.{true, false}
-use mathlib.Core.Logic.{inl, inr}
+-- A channel opened in a sound picture: its entry, its block, and what has changed.
+use Prim.Native.Nat.{ℕ, ◌+◌, ◌-◌, ◌*◌, ◌/◌, ◌%◌, ◌≤◌, ◌<◌}
+use mathlib.Core.Path.{◌≡◌, refl, sym, ap, ◌∙◌, subst}
+use mathlib.Core.Bool.{Bool, true, false}
+use mathlib.Core.Logic.{⊎_elim, ◌⊎◌, inl, inr}
 use mathlib.Core.List.{List}
 use lib.ListN.{length, length-set}
 use lib.Seq.{get_or-set_same, get_or-set_other}
 use native.Mathlib.Omega.{arith}
-use Rattle.words.specs.Words.{word}
+use borrow.Author.Tests.{ltb-true}
+use Rattle.words.specs.Words.{word, put}
 use Rattle.words.specs.Each.{In}
 use Rattle.words.proofs.Tests.{false_true}
-use Rattle.picture.specs.Layout.{heap_base, heap_word, size_word, from, upto}
-use Rattle.picture.specs.Numbers.{free_position}
-use Rattle.picture.specs.declared.Table.TheVariants.{Channels}
+use Rattle.picture.specs.Layout.{heap_base, heap_word, size_word, last_word, greatest_tag, positions, width, from, upto, first_record, current_word}
+use Rattle.picture.specs.Records.{slot, field, used, ending_field}
+use Rattle.picture.specs.Numbers.{free_position, live}
+use Rattle.picture.specs.declared.Table.{Table}
+use Rattle.picture.specs.declared.Table.TheVariants.{Jobs, Channels}
 use Rattle.picture.specs.declared.Area.{Area}
 use Rattle.picture.specs.declared.Area.TheVariants.{Heap}
-use Rattle.blocks.specs.Header.{header_width, kind_field, holder_field, start_field, queue_length_field, queue_oldest_field, queue_count_field, queue_zero_field, queue_bytes_field, with_queue_length, size, kind, queue_kind, free, holder, start, queue_length}
+use Rattle.picture.proofs.Records.{slot_within}
+use Rattle.picture.proofs.Members.{Holds, Spares, holds_low, spares_past, spares_size, spares_current, spares_heap, spares_last, spares_other, members_same, jobs_apart}
+use Rattle.blocks.specs.Header.{header_width, kind_field, holder_field, start_field, queue_length_field, queue_oldest_field, queue_count_field, queue_zero_field, queue_bytes_field, with_queue_length, size, kind, queue_kind, free, holder, start, queue_length, queue_oldest, queue_count, queue_zero, rounded}
 use Rattle.blocks.specs.Walk.{starts, blocks}
 use Rattle.blocks.proofs.Starts.{starts_in}
-use Rattle.ends.specs.Ends.{output_end}
 use Rattle.headers.specs.Header.{Outside}
 use Rattle.placing.specs.Place.{placed}
 use Rattle.law_placing.specs.Placed.{Placed}
 use Rattle.placing.proofs.Chosen.{Chosen}
 use Rattle.sound_areas.specs.Rules.{longest_queue}
 use Rattle.sound.specs.Sound.{sound}
-use Rattle.sound_facts.proofs.Sound.{Queue, Sound}
+use Rattle.sound_facts.proofs.Sound.{Sizes, Queue, Sound}
 use Rattle.sound_facts.proofs.View.{view}
 use Rattle.sound_facts.proofs.Same.{starts_between, within}
 use Rattle.rooms.specs.Room.{spot, header_byte}
 use Rattle.rooms.proofs.Room.{has_room, spot_is_free_and_enough}
 use Rattle.rooms.proofs.Sizes.{Lies, areas_lie_in_a_sound_picture}
-use Rattle.entering.specs.Entry.{has_position, has_tag, next_tag}
+use Rattle.entering.specs.Entry.{has_position, has_tag, next_tag, entered}
+use Rattle.law_entering.proofs.Written.{Entered, entered_is, entering_keeps_the_areas, entered_after}
+use Rattle.entering.proofs.Vacant.{free_position_is_free}
 use Rattle.law_blocks.proofs.Tables.{TablesSame}
 use Rattle.law_blocks.proofs.Change.{Change, from_same, upto_same, change_then}
 use Rattle.law_blocks.proofs.Placing.{None, Only, placed_facts, placing_keeps_the_tables, placing_is_a_change}
-use Rattle.opening.specs.Effects.{queue_bytes, channelled}
+use Rattle.opening.specs.Effects.{queue_bytes, queued, channelled, opened}
+use Rattle.sound_facts.proofs.Jobs.{JobsSame}
 use Rattle.law_opening.proofs.Room.{room_walk, change_room}
-use Rattle.law_opening.proofs.Entry as the
 
 units : (n : ℕ) → queue_bytes n % 16 ≡ 0
 units n = omega arith
@@ -52,17 +58,34 @@ module _ (p : List ℕ) (o n : ℕ) (h : sound p ≡ true) (free-place : has_pos
   pub lies : (a : Area) → Lies p a
   lies = areas_lie_in_a_sound_picture p h
 
+  abbrev pub k : ℕ
+  k = free_position p Channels
+
   abbrev pub at : ℕ
   at = spot p Heap (queue_bytes n)
 
   abbrev r₀ : List ℕ
   r₀ = placed p (spot p Heap (queue_bytes n)) (queue_bytes n) queue_kind o 0
 
-  abbrev pub r : List ℕ
+  abbrev r : List ℕ
   r = with_queue_length (placed p (spot p Heap (queue_bytes n)) (queue_bytes n) queue_kind o 0) (spot p Heap (queue_bytes n)) n
 
+  abbrev pub e : List ℕ
+  e = entered r Channels (free_position p Channels) (next_tag p Channels) o (header_byte (spot p Heap (queue_bytes n)))
+
   abbrev pub q : List ℕ
-  q = channelled r (free_position p Channels) (next_tag p Channels) o (header_byte (spot p Heap (queue_bytes n))) output_end
+  q = opened p o n
+
+  pub there : k < positions Channels
+  unfolding has_position
+  there = ltb-true (free_position p Channels) (positions Channels) free-place
+
+  pub vacant : used p Channels k ≡ false
+  vacant = free_position_is_free p Channels there
+
+  pub tag_left : next_tag p Channels ≤ greatest_tag
+  unfolding has_tag
+  tag_left = let l = ltb-true (word p (last_word Channels)) greatest_tag tagged in omega arith
 
   -- first the block
   B : Placed p r₀ (from p Heap) (upto p Heap) at (queue_bytes n) queue_kind o 0
@@ -93,7 +116,7 @@ module _ (p : List ℕ) (o n : ℕ) (h : sound p ≡ true) (free-place : has_pos
   length_there : word r (at + queue_length_field) ≡ n
   length_there = get_or-set_same r₀ (at + queue_length_field) n 0 (let l = at_inside in omega arith)
 
-  pub r_tables : TablesSame p r
+  r_tables : TablesSame p r
   r_tables = record { words = λ j l. let b = at_behind in length_other j (λ z. omega arith) ∙ block_tables.words j l; long = simp length-set block_tables.long }
 
   r_begins : (b : Area) → from r b ≡ from p b
@@ -118,12 +141,46 @@ module _ (p : List ℕ) (o n : ℕ) (h : sound p ≡ true) (free-place : has_pos
   r_walk : starts r (from p Heap) (upto p Heap) ≡ starts r₀ (from p Heap) (upto p Heap)
   r_walk = room_walk p r₀ r Heap (Only at) None placing_change at B.there vacated outside_room r_begins r_ends
 
-  -- then the entry
+  -- then the entry, and its last longword
+  whole : heap_base ≤ length r
+  whole = let m = S.sizes.least in rw r_tables.long (omega arith)
+
+  pub entry : Entered p e Channels k (next_tag p Channels) o (header_byte at)
+  entry = entered_after p r e Channels k (next_tag p Channels) o (header_byte at) r_tables (entered_is r Channels k (next_tag p Channels) o (header_byte at) there whole)
+
+  e_long : length e ≡ length p
+  e_long = entry.long
+
+  pub q_other : (j : ℕ) → (j ≡ slot Channels k + ending_field → ⊥) → word q j ≡ word e j
+  unfolding opened channelled queued
+  q_other j m = get_or-set_other e (slot Channels k + ending_field) j 1 0 m
+
+  pub q_one : word q (slot Channels k + ending_field) ≡ 1
+  unfolding opened channelled queued
+  q_one = get_or-set_same e (slot Channels k + ending_field) 1 0 (let w = slot_within Channels k there in let m = S.sizes.least in rw e_long (omega arith))
+
+  pub q_long : length q ≡ length p
+  unfolding opened channelled queued
+  q_long = simp length-set e_long
+
   q_areas : (j : ℕ) → heap_base ≤ j → word q j ≡ word r j
-  q_areas = the.areas p r o (header_byte at) output_end h free-place tagged r_tables
+  q_areas j l = let w = slot_within Channels k there in q_other j (λ z. omega arith) ∙ entering_keeps_the_areas r Channels k (next_tag p Channels) o (header_byte at) there whole j l
+
+  pub q_low : (j : ℕ) → j < first_record Channels → Spares Channels j → (j ≡ last_word Channels → ⊥) → word q j ≡ word p j
+  q_low j l a b = q_other j (λ z. omega arith) ∙ entry.other j (omega arith) (inl (omega arith)) a b
 
   pub change : Change p q Heap (Only at) None
-  change = change_then p r q Heap (Only at) None r_change lies (the.begins p r o (header_byte at) output_end h free-place tagged r_tables) (the.ends p r o (header_byte at) output_end h free-place tagged r_tables) q_areas
+  change =
+      let z = q_low heap_word (omega arith) (spares_heap Channels) (λ x. omega arith) in
+      change_then p r q Heap (Only at) None r_change lies (from_same p q z) (upto_same p q z (q_low size_word (omega arith) (spares_size Channels) (λ x. omega arith))) q_areas
+
+  pub jobs_same : JobsSame p q
+  jobs_same = record {
+    fields = λ j f a b. q_low (slot Jobs j + f) (omega arith) (spares_past Channels (slot Jobs j + f) (omega arith)) (λ x. omega arith);
+    mask = members_same p q Jobs (λ j x. let l = holds_low Jobs j x in q_low j (omega arith) (spares_other Channels Jobs jobs_apart j x) (λ z. spares_last Jobs Channels (subst (Holds Jobs) z x)));
+    last = q_low (last_word Jobs) (omega arith) (spares_last Channels Jobs) (λ x. omega arith);
+    current = q_low current_word (omega arith) (spares_current Channels) (λ x. omega arith);
+  }
 
   -- its block in the picture that is left
   pub at_there : In at (blocks q Heap)

@@ -1,4 +1,3 @@
 -- Laws of owners in a sound picture, and of the trees that they make.
 pub mod Owners
 pub mod Members
-pub mod Same

@@ -1,4 +1,4 @@
--- Pictures of ready jobs that are set up by hand, as the desk bench's picks want one (rule 133), and a full house, in which a job waits as long as
+-- Pictures of ready jobs that are set up by hand, as the desk bench's picks want one (rule 132), and a full house, in which a job waits as long as
 -- demand 3 lets it. That they are sound is a row of the desk bench's table (law_bench/specs/Table.antt).
 use Rattle.std.specs.Prelude.{ℕ, zero, suc, ◌+◌, ◌-◌, ◌*◌, ◌/◌, ◌^◌, length, replicate}
 use mathlib.Core.List.{List, [], ◌∷◌, ◌++◌, Memᴰ}

@@ -1,4 +1,4 @@
--- Rule 98 in words: what placing a block in an area leaves. An area is the longwords from base up to e.
+-- Rule 97 in words: what placing a block in an area leaves. An area is the longwords from base up to e.
 use Rattle.std.specs.Prelude.{ℕ, ◌+◌, ◌-◌, ◌/◌, ◌≤◌, ◌<◌, ◌≡◌, ◌⊎◌, List, length}
 use Rattle.words.specs.Words.{word}
 use Rattle.words.specs.Each.{In}

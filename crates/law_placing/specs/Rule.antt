@@ -1,4 +1,4 @@
--- Rule 98 in words, once over both areas: "Placing takes the low end of the lowest free block whose length is enough". An area is the longwords from base up to e.
+-- Rule 97 in words, once over both areas: "Placing takes the low end of the lowest free block whose length is enough". An area is the longwords from base up to e.
 use Rattle.std.specs.Prelude.{ℕ, ◌≤◌, ◌<◌, ◌≡◌, true, List}
 use Rattle.words.specs.Each.{In}
 use Rattle.blocks.specs.Header.{size, free}

@@ -25,8 +25,8 @@ use Rattle.law_entering.proofs.Kept.{number_position}
 use Rattle.law_creating.proofs.Ways as creating
 use Rattle.law_creating.proofs.Ways.{create_where_done}
 use Rattle.law_creating.proofs.New.{new_number_in_D1}
-use Rattle.law_opening.proofs.Ways.{Checked}
-use Rattle.law_opening.proofs.Open.{open_channel_makes_one_where_done}
+use Rattle.law_opening.proofs.Ways as opening
+use Rattle.law_opening.proofs.Ways.{open_channel_where_done}
 use Rattle.law_opening.proofs.Queues.{new_number_in_A0}
 use Rattle.law_promises.proofs.Done.{where_a_job_is_made, where_a_channel_is_opened}
 use Rattle.law_promises.proofs.History.{run_keeps_sound}
@@ -49,5 +49,5 @@ a_new_job_stands_there p d name e = where_a_job_is_made p d name (λ (o : Outcom
     ap position (new_number_in_D1 (next_number p Jobs) (spot p Transient (job_length d)) (bits done) d l) ∙ stands p Jobs s c.place))
 
 pub a_new_channel_stands_there : ANewChannelStandsThere
-a_new_channel_stands_there p d name e = where_a_channel_is_opened p d name (λ (o : Outcome). position (A0 o.registers) ≡ walked_to p Channels) e (λ l s. open_channel_makes_one_where_done p d name s (λ (o : Outcome). position (A0 (with_key o).registers) ≡ walked_to p Channels) (λ q c _.
+a_new_channel_stands_there p d name e = where_a_channel_is_opened p d name (λ (o : Outcome). position (A0 o.registers) ≡ walked_to p Channels) e (λ l s. open_channel_where_done (λ (o : Outcome). position (A0 (with_key o).registers) ≡ walked_to p Channels) p d name (λ (c : opening.Checked p d name).
     ap position (new_number_in_A0 (meant p (D1 d)) (next_number p Channels) (bits done) d l) ∙ stands p Channels s c.place))

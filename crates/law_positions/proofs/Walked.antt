@@ -15,7 +15,7 @@ use Rattle.picture.specs.Numbers.{tag, free_position}
 use Rattle.picture.specs.declared.Table.{Table}
 use Rattle.picture.specs.declared.Table.TheVariants.{Jobs, Channels}
 use Rattle.picture.proofs.Records.{shared, all_zero_by, all_zero_not, used_is, used_below}
-use Rattle.sound_matching.specs.Match.{ordinary}
+use Rattle.sound_matching.specs.Match.{has_block}
 use Rattle.sound_facts.proofs.Sound.{Entries, Jobs_fine, Sound, entries_of}
 use Rattle.law_positions.specs.Positions.{walk, walked_to}
 
@@ -30,13 +30,13 @@ walk_to p t (suc n) k r a b u f = go (all_zero p t k) refl (λ l. walk_to p t n 
 
 module _ (p : List ℕ) (S : Sound p) where
   -- a record in use isn't all zero: it has a tag, or it is job 0's, whose owner is nobody
-  has_tag : (t : Table) (k : ℕ) → k < positions t → ordinary p t k ≡ true → all_zero p t k ≡ false
+  has_tag : (t : Table) (k : ℕ) → k < positions t → has_block p t k ≡ true → all_zero p t k ≡ false
   has_tag t k l h =
       let g = ((entries_of p S t).tagged k h).0 in
       all_zero_not p t k number_field (shared t number_field (omega arith)) (λ e. omega arith)
 
   in_use : (t : Table) (k : ℕ) → used p t k ≡ true → all_zero p t k ≡ false
-  unfolding ordinary
+  unfolding has_block
   in_use Jobs zero h = all_zero_not p Jobs 0 owner_field (omega arith) (λ e. omega (arith, S.jobs.zero_unowned))
   in_use Jobs (suc k) h = has_tag Jobs (suc k) (used_below p Jobs (suc k) h) (both_true (leb 1 (suc k)) _ (le-leb 1 (suc k) (omega arith)) h)
   in_use Channels k h = has_tag Channels k (used_below p Channels k h) (both_true (leb 0 k) _ (le-leb 0 k (omega arith)) h)

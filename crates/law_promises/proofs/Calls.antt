@@ -12,8 +12,7 @@ use Rattle.creating.specs.Create.{create}
 use Rattle.ending.specs.Remove.{remove, force_remove}
 use Rattle.memory.specs.Memory.{longest_room, take, give_back}
 use Rattle.opening.specs.Calls.{open_channel}
-use Rattle.closing.specs.Calls.{close_channel}
-use Rattle.channels.specs.Calls.{pending, fetch, send}
+use Rattle.channels.specs.Calls.{close_channel, pending, fetch, send}
 use Rattle.traps.proofs.Among.{among_by}
 use Rattle.traps.specs.Traps.{unknown, calls_one, calls_two, calls_three, trap_one, trap_two, trap_three, traps, call_named}
 

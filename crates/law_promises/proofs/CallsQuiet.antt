@@ -43,7 +43,7 @@ use Rattle.memory.specs.Memory.{longest_room, taken, take, given_back, give_back
 use Rattle.law_memory.proofs.Ways.{take_ways, give_back_ways}
 use Rattle.law_memory.proofs.Kept.{taken_tables, given_back_tables}
 use Rattle.channels.specs.Calls.{pending, fetch, send}
-use Rattle.closing.proofs.Found.{live_queue}
+use Rattle.channels.proofs.Found.{live_queue}
 use Rattle.queues.specs.Ring.{fetched, sent}
 use Rattle.law_queues.proofs.Written.{tables}
 use Rattle.law_queues.proofs.Ways.{queue_there, pending_ways, fetch_ways, send_ways}
@@ -79,12 +79,12 @@ give_back_is_quiet j l p d h = give_back_ways (λ (o : Outcome). Quiet j p o.pic
 
 pub fetch_is_quiet : (j : ℕ) → j < positions Jobs → (p d : List ℕ) → sound p ≡ true → Quiet j p (outcome fetch p d).picture
 fetch_is_quiet j l p d s = fetch_ways (λ (o : Outcome). Quiet j p o.picture) p d (λ k. nothing_is_quiet j p)
-    (λ a _ b c. let H = live_queue p (A0 d) s a in
+    (λ a b c. let H = live_queue p (A0 d) s a in
     tables_quiet j l p (fetched p (queue_there p d)) (tables p (fetched p (queue_there p d)) (position (A0 d)) (queue_there p d) (view p s) H (fetched_written p (position (A0 d)) (queue_there p d) H c)))
 
 pub send_is_quiet : (j : ℕ) → j < positions Jobs → (p d : List ℕ) → sound p ≡ true → Quiet j p (outcome send p d).picture
 send_is_quiet j l p d s = send_ways (λ (o : Outcome). Quiet j p o.picture) p d (λ k. nothing_is_quiet j p)
-    (λ a _ b c. let H = live_queue p (A0 d) s a in
+    (λ a b c. let H = live_queue p (A0 d) s a in
     tables_quiet j l p (sent p (queue_there p d) (D1 d % 256)) (tables p (sent p (queue_there p d) (D1 d % 256)) (position (A0 d)) (queue_there p d) (view p s) H (sent_written p (position (A0 d)) (queue_there p d) H (D1 d % 256) (low_byte (D1 d)) c)))
 
 -- nobody becomes current

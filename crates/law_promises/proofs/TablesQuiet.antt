@@ -4,25 +4,33 @@ use mathlib.Core.Path.{◌≡◌, refl, sym, ap, ◌∙◌}
 use mathlib.Core.Bool.{Bool, true, false}
 use mathlib.Core.Logic.{⊎_elim, ◌⊎◌, inl, inr}
 use mathlib.Core.List.{List}
+use lib.ListN.{length}
 use native.Mathlib.Omega.{arith}
 use Rattle.words.specs.Bits.{bit}
 use Rattle.words.proofs.Tests.{false_true}
-use Rattle.picture.specs.Layout.{positions}
+use Rattle.picture.specs.Layout.{heap_base, positions, from, upto}
 use Rattle.picture.specs.Records.{slot, priority, accumulated, used, ready, accumulated_field, priority_field}
 use Rattle.picture.specs.Numbers.{position, live}
 use Rattle.picture.specs.declared.Table.TheVariants.{Jobs, Channels}
+use Rattle.picture.specs.declared.Area.TheVariants.{Heap}
+use Rattle.picture.proofs.Members.{spares_past}
 use Rattle.headers.proofs.Header.{same_or_not}
+use Rattle.freeing.specs.Sweep.{swept}
 use Rattle.sound.specs.Sound.{sound}
-use Rattle.sound_facts.proofs.Sound.{Sound}
+use Rattle.sound_facts.proofs.Sound.{Sizes, Sound}
 use Rattle.sound_facts.proofs.View.{view}
 use Rattle.rooms.specs.Room.{header_byte}
+use Rattle.rooms.proofs.Sizes.{areas_lie_in_a_sound_picture}
 use Rattle.calls.specs.Found.{job_position}
 use Rattle.calls.specs.Outcome.{Outcome}
 use Rattle.calls.specs.Call.{outcome}
 use Rattle.calls.specs.Registers.{A0, D1, D3, meant}
-use Rattle.closing.specs.Effects.{closed}
-use Rattle.closing.specs.Calls.{close_channel}
-use Rattle.law_channels.proofs.Parted.{Closing, closing}
+use Rattle.law_blocks.proofs.Tables.{TablesSame}
+use Rattle.law_blocks.proofs.Freeing.{giving_back_keeps_the_tables}
+use Rattle.channels.specs.Effects.{queue_of, closed}
+use Rattle.channels.specs.Calls.{close_channel}
+use Rattle.channels.proofs.Found.{live_below}
+use Rattle.law_channels.proofs.Forgotten.{Forgotten, forgotten_is}
 use Rattle.law_channels.proofs.Close.{close_channel_ways}
 use Rattle.law_picks.specs.Stretch.{Stands, Quiet}
 use Rattle.tree.specs.Tree.{tree}
@@ -30,7 +38,7 @@ use Rattle.emptying.specs.Taken.{channels_of}
 use Rattle.ending.specs.Ended.{ended}
 use Rattle.ending.specs.Remove.{remove, force_remove}
 use Rattle.law_ending.proofs.Taken.{Taken, taken_gains}
-use Rattle.law_ending.proofs.Ended.{ended_tables}
+use Rattle.law_ending.proofs.Sound.{ended_tables}
 use Rattle.law_ending.proofs.Calls.{of_remove, of_force_remove}
 use Rattle.entering.specs.Entry.{next_tag}
 use Rattle.law_entering.proofs.Written.{Entered}
@@ -39,9 +47,11 @@ use Rattle.creating.specs.Create.{created, create}
 use Rattle.law_creating.proofs.Ways as creating
 use Rattle.law_creating.proofs.Made as the
 use Rattle.law_turns.proofs.Pick.{ready_used}
+use Rattle.names.specs.Names.{number_in, named}
+use Rattle.opening.specs.Effects.{opened}
 use Rattle.opening.specs.Calls.{open_channel}
-use Rattle.law_opening.proofs.Entry.{OneMore}
-use Rattle.law_opening.proofs.Open.{open_channel_makes_one}
+use Rattle.law_opening.proofs.Ways.{Checked, open_channel_ways}
+use Rattle.law_opening.proofs.Opened.{jobs_same}
 use Rattle.sound_facts.proofs.Jobs.{JobsSame}
 use Rattle.law_picks.proofs.Quiet.{nothing_is_quiet}
 
@@ -49,15 +59,25 @@ use Rattle.law_picks.proofs.Quiet.{nothing_is_quiet}
 kept_below_is_quiet : (j : ℕ) → j < positions Jobs → (p q : List ℕ) → ((i : ℕ) → i < positions Jobs → accumulated q i ≡ accumulated p i) → Quiet j p q
 kept_below_is_quiet j l p q same = record { own = omega (arith, same j l); others = λ i m ne. omega (arith, same i m) }
 
--- a channel is closed: the jobs' records are the same
+-- a channel is closed: its block, then its entry
+closed_keeps : (p : List ℕ) (n : ℕ) → sound p ≡ true → live p Channels n ≡ true → (i : ℕ) → i < positions Jobs → accumulated (closed p (position n)) i ≡ accumulated p i
+unfolding closed
+closed_keeps p n s l i m =
+    let S : Sound p = view p s in
+    let B : TablesSame p (swept p (from p Heap) (upto p Heap) 0 (queue_of p (position n))) = giving_back_keeps_the_tables p Heap (queue_of p (position n)) (S.tiled Heap) (areas_lie_in_a_sound_picture p s Heap) in
+    let w : heap_base ≤ length (swept p (from p Heap) (upto p Heap) 0 (queue_of p (position n))) = (let z = S.sizes.least in rw B.long (omega arith)) in
+    let F : Forgotten (swept p (from p Heap) (upto p Heap) 0 (queue_of p (position n))) (closed p (position n)) Channels (position n) = forgotten_is (swept p (from p Heap) (upto p Heap) 0 (queue_of p (position n))) Channels (position n) (live_below p n l) w in
+    F.other (slot Jobs i + accumulated_field) (inl (omega arith)) (spares_past Channels (slot Jobs i + accumulated_field) (omega arith)) ∙ B.words (slot Jobs i + accumulated_field) (omega arith)
+
 pub close_channel_is_quiet : (j : ℕ) → j < positions Jobs → (p d : List ℕ) → sound p ≡ true → Quiet j p (outcome close_channel p d).picture
 close_channel_is_quiet j l p d s = close_channel_ways (λ (o : Outcome). Quiet j p o.picture) p d (λ k. nothing_is_quiet j p)
-    (λ a. kept_below_is_quiet j l p (closed p (position (A0 d))) (λ i m. (closing p (A0 d) s a).jobs.fields i accumulated_field m (omega arith)))
+    (λ a. kept_below_is_quiet j l p (closed p (position (A0 d))) (closed_keeps p (A0 d) s a))
 
 -- a channel is opened: the jobs' records are the same
 pub open_channel_is_quiet : (j : ℕ) → j < positions Jobs → (p d name : List ℕ) → sound p ≡ true → Quiet j p (outcome (open_channel name) p d).picture
-open_channel_is_quiet j l p d name s = open_channel_makes_one p d name s (λ (o : Outcome). Quiet j p o.picture) (λ k. nothing_is_quiet j p)
-    (λ q c o. kept_below_is_quiet j l p q (λ i m. o.jobs.fields i accumulated_field m (omega arith)))
+open_channel_is_quiet j l p d name s = open_channel_ways (λ (o : Outcome). Quiet j p o.picture) p d name (λ k. nothing_is_quiet j p)
+    (λ (c : Checked p d name). kept_below_is_quiet j l p (opened p (meant p (D1 d)) (number_in (named name)))
+    (λ i m. (jobs_same p (meant p (D1 d)) (number_in (named name)) s c.place c.tagged c.room).fields i accumulated_field m (omega arith)))
 
 -- a job is created: its accumulated is 0, at a position that was free
 module _ (p d : List ℕ) (s : sound p ≡ true) (c : creating.Checked p d) where

@@ -22,9 +22,9 @@ use Rattle.law_blocks.proofs.Tables.{TablesSame, tables_still, tables_age}
 use Rattle.queues.specs.Bytes.{byte_word}
 use Rattle.queues.specs.Ring.{Ring, index, waits, full, fetched, sent}
 use Rattle.queues.proofs.Ring.{index_below, waits_some, full_not, length_fetched, fetched_other, fetched_oldest, fetched_count, fetched_length, fetched_ring, length_sent, sent_other, sent_count, sent_length, sent_oldest, sent_ring}
-use Rattle.ends.specs.Ends.{queue_of}
+use Rattle.channels.specs.Effects.{queue_of}
 use Rattle.channels.specs.Calls.{pending, fetch, send}
-use Rattle.closing.proofs.Found.{Held, live_queue}
+use Rattle.channels.proofs.Found.{Held, live_queue}
 use Rattle.law_queues.proofs.Written.{Written, tables, writing_keeps_sound}
 use Rattle.law_queues.proofs.Ways.{queue_there, pending_ways, fetch_ways, send_ways}
 
@@ -86,23 +86,23 @@ pending_keeps_sound p d s = pending_ways (λ (o : Outcome). sound o.picture ≡ 
 
 pub fetch_keeps_sound : (p d : List ℕ) → sound p ≡ true → sound (outcome fetch p d).picture ≡ true
 fetch_keeps_sound p d s = fetch_ways (λ (o : Outcome). sound o.picture ≡ true) p d (λ k. s)
-    (λ a e b c. let H = live_queue p (A0 d) s a in
+    (λ a b c. let H = live_queue p (A0 d) s a in
     sound_again _ (writing_keeps_sound p (fetched p (queue_there p d)) (position (A0 d)) (queue_there p d) (view p s) H (fetched_written p (position (A0 d)) (queue_there p d) H c)))
 
 pub send_keeps_sound : (p d : List ℕ) → sound p ≡ true → sound (outcome send p d).picture ≡ true
 send_keeps_sound p d s = send_ways (λ (o : Outcome). sound o.picture ≡ true) p d (λ k. s)
-    (λ a e b c. let H = live_queue p (A0 d) s a in
+    (λ a b c. let H = live_queue p (A0 d) s a in
     sound_again _ (writing_keeps_sound p (sent p (queue_there p d) (D1 d % 256)) (position (A0 d)) (queue_there p d) (view p s) H (sent_written p (position (A0 d)) (queue_there p d) H (D1 d % 256) (low_byte (D1 d)) c)))
 
 -- the tables stay
 pub fetch_keeps_the_tables : (p d : List ℕ) → sound p ≡ true → TablesSame p (outcome fetch p d).picture
 fetch_keeps_the_tables p d s = fetch_ways (λ (o : Outcome). TablesSame p o.picture) p d (λ k. tables_still p)
-    (λ a e b c. let H = live_queue p (A0 d) s a in
+    (λ a b c. let H = live_queue p (A0 d) s a in
     tables p (fetched p (queue_there p d)) (position (A0 d)) (queue_there p d) (view p s) H (fetched_written p (position (A0 d)) (queue_there p d) H c))
 
 pub send_keeps_the_tables : (p d : List ℕ) → sound p ≡ true → TablesSame p (outcome send p d).picture
 send_keeps_the_tables p d s = send_ways (λ (o : Outcome). TablesSame p o.picture) p d (λ k. tables_still p)
-    (λ a e b c. let H = live_queue p (A0 d) s a in
+    (λ a b c. let H = live_queue p (A0 d) s a in
     tables p (sent p (queue_there p d) (D1 d % 256)) (position (A0 d)) (queue_there p d) (view p s) H (sent_written p (position (A0 d)) (queue_there p d) H (D1 d % 256) (low_byte (D1 d)) c))
 
 pub pending_keeps_the_tables : (p d : List ℕ) → TablesSame p (outcome pending p d).picture

@@ -21,12 +21,12 @@ use Rattle.blocks.proofs.Walk.{Good, is_good, next_good}
 use Rattle.blocks.proofs.Starts.{starts_in, next_same}
 use Rattle.headers.specs.Header.{Outside}
 use Rattle.headers.proofs.Header.{same_or_not}
-use Rattle.law_areas.proofs.Walk.{walk_same, blocks_apart}
 use Rattle.sound_matching.specs.Match.{area_of}
 use Rattle.sound_facts.proofs.Sound.{Sizes, Queue, Fits, Tiled, Sound}
-use Rattle.sound_facts.proofs.Same.{Lives, next_in, within, AreaSame, blocks_same, kind_same, holder_same, tiled_same, MatchSame, matched_same, has_block_same}
-use Rattle.law_blocks.proofs.Tables.{TablesSame, mask_same, owner_same, base_same, lives_on, ends_same, sizes_same, jobs_same, channels_same, current_same}
-use Rattle.closing.proofs.Found.{Held}
+use Rattle.sound_facts.proofs.Same.{Lives, next_in, within, AreaSame, blocks_same, kind_same, holder_same, tiled_same, MatchSame, matched_same}
+use Rattle.law_blocks.proofs.Tables.{TablesSame, mask_same, owner_same, base_same, lives_on, sizes_same, jobs_same, channels_same, current_same}
+use Rattle.channels.proofs.Found.{Held}
+use Rattle.law_queues.proofs.Walk.{walk_same, blocks_apart}
 
 -- q is p with the room of the queue at i written, but for its length
 pub record Written (p q : List ℕ) (i : ℕ) : Type 0 where
@@ -124,7 +124,7 @@ module _ (p q : List ℕ) (k i : ℕ) (S : Sound p) (H : Held p k i) (W : Writte
 
   matching : (t : Table) → MatchSame p q t
   matching Jobs = record {
-    blocks_as_were = has_block_same p q Jobs (mask_same p q tables Jobs) (ends_same p q tables);
+    mask = mask_same p q tables Jobs;
     owners = owner_same p q tables Jobs;
     bases = base_same p q tables Jobs;
     walk = blocks_same p q Transient transient_same;
@@ -132,7 +132,7 @@ module _ (p q : List ℕ) (k i : ℕ) (S : Sound p) (H : Held p k i) (W : Writte
     holders = holder_same p q Transient transient_same (S.tiled Transient);
   }
   matching Channels = record {
-    blocks_as_were = has_block_same p q Channels (mask_same p q tables Channels) (ends_same p q tables);
+    mask = mask_same p q tables Channels;
     owners = owner_same p q tables Channels;
     bases = base_same p q tables Channels;
     walk = blocks_stay;

@@ -1,4 +1,4 @@
--- A report says what $2 says (rule 110): asked for the top, then for each answer until that is 0, $2 meets the jobs of the lines in their order, and tells of each what its line tells.
+-- A report says what $2 says (rule 109): asked for the top, then for each answer until that is 0, $2 meets the jobs of the lines in their order, and tells of each what its line tells.
 use Rattle.std.specs.Prelude.{ℕ, ◌+◌, ◌≡◌, cond, List, [], ◌∷◌, length}
 use Rattle.words.specs.Words.{word}
 use Rattle.picture.specs.Layout.{nobody}

@@ -1,4 +1,4 @@
--- Each key of a report is given only for its cause (rule 107), both ways and in order: "an unsound picture answers -16, a top that isn't live -2, a table too short -5; none writes a line".
+-- Each key of a report is given only for its cause (rule 106), both ways and in order: "an unsound picture answers -16, a top that isn't live -2, a table too short -5; none writes a line".
 use Rattle.std.specs.Prelude.{ℕ, ◌≤◌, ◌<◌, ◌≡◌, true, false, List, [], ℤ, length}
 use Rattle.picture.specs.Keys.{done, invalid_job, buffer_overflow, not_sound}
 use Rattle.picture.specs.Numbers.{position, live}

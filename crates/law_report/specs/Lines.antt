@@ -1,4 +1,4 @@
--- A report in words (rule 108): one line for each member of the tree, "in order of tag", the top first, and a "depth below the top" that is one more than the owner's.
+-- A report in words (rule 107): one line for each member of the tree, "in order of tag", the top first, and a "depth below the top" that is one more than the owner's.
 use Rattle.std.specs.Prelude.{ℕ, suc, ◌<◌, ◌≡◌, true, false, List, pos, length, get_or}
 use Rattle.picture.specs.Keys.{done}
 use Rattle.picture.specs.Records.{number, owner, priority, timeout, used}

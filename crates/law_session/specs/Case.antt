@@ -1,4 +1,4 @@
--- The session program (rules 119 and 120): document 01's whole case, its sentences about lines, and a report, worked out.
+-- The session program (rules 118 and 119): document 01's whole case, its sentences about lines, and a report, worked out.
 use Rattle.std.specs.Prelude.{◌≡◌, List, [], ◌∷◌, ◌++◌, ℕ, replicate}
 use Rattle.program_session.specs.Session.{session}
 

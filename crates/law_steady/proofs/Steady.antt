@@ -23,8 +23,7 @@ use Rattle.picture.specs.Layout.{greatest_priority, hold}
 use Rattle.picture.proofs.Timeout.{Timely, timeout_same, ready_same}
 use Rattle.picture.proofs.Members.{Holds, holds_low, spares_current, members_same}
 use Rattle.sound_facts.proofs.Sound.{Sizes, Waits, Entries, Jobs_fine, Channels_fine, Tiled, Current, Sound}
-use Rattle.ends.proofs.Ends.{EndsSame}
-use Rattle.sound_facts.proofs.Same.{Lives, used_same, live_same, EntriesSame, entries_same, AreaSame, blocks_same, kind_same, holder_same, has_block_same, tiled_same, MatchSame, matched_same}
+use Rattle.sound_facts.proofs.Same.{Lives, used_same, live_same, EntriesSame, entries_same, AreaSame, blocks_same, kind_same, holder_same, tiled_same, MatchSame, matched_same}
 use Rattle.sound_facts.proofs.Ages.{Ages, ages_same}
 use Rattle.sound_facts.proofs.Sizes.{Fixed, sizes_kept}
 
@@ -159,17 +158,10 @@ module _ (p q : List ℕ) (s : Steady p q) where
         older : (k : ℕ) → used p Jobs k ≡ true → (owner q Jobs k ≡ nobody) ⊎ (tag (owner q Jobs k) < tag (number q Jobs k))
         older k u = let l = used_below p Jobs k u in rw (s.fields k number_field l (omega arith), s.fields k owner_field l (omega arith)) (S.jobs.older k u)
 
-    ends : EndsSame p q
-    ends = record {
-      used_as_was = steady_used Channels;
-      bases = λ k u. steady_field Channels k base_field (used_below p Channels k u) (omega arith);
-      endings = λ k u. s.after (slot Channels k + ending_field) (omega arith);
-    }
-
     channels : Channels_fine q
     channels = record {
       entries = entries_same p q Channels (entries Channels) lives channels_blank S.channels.entries;
-      known = λ k u. rw (s.after (slot Channels k + ending_field) (omega arith)) (S.channels.known k (was_used Channels k u));
+      one = λ k u. s.after (slot Channels k + ending_field) (omega arith) ∙ S.channels.one k (was_used Channels k u);
     }
 
     matched : (t : Table) → Matched q t
@@ -178,8 +170,8 @@ module _ (p q : List ℕ) (s : Steady p q) where
         let T = S.tiled (area_of t) in
         matched_same p q t
         (record {
+          mask = mask t;
           owners = λ k l. steady_field t k owner_field l (omega arith);
-          blocks_as_were = has_block_same p q t (mask t) ends;
           bases = λ k l. steady_field t k base_field l (omega arith);
           walk = blocks_same p q (area_of t) a;
           kinds = kind_same p q (area_of t) a T;

@@ -1,4 +1,4 @@
--- Document 01, pick and tick (rule 105): "On an unsound picture both answer the key -16, pick with number $FFFFFFFF."
+-- Document 01, pick and tick (rule 104): "On an unsound picture both answer the key -16, pick with number $FFFFFFFF."
 use Rattle.std.specs.Prelude.{ℕ, cond, List, ℤ}
 use Rattle.picture.specs.Layout.{nobody}
 use Rattle.picture.specs.Keys.{done, not_sound}

@@ -1,9 +1,9 @@
 -- Digits one after the other: what is left to read is worth the same.
 use Prim.Native.Nat.{ℕ, suc, ◌+◌, ◌-◌, ◌*◌, ◌^◌, ◌≤◌, ◌<◌}
-use mathlib.Core.Path.{◌≡◌, refl, subst}
+use mathlib.Core.Path.{◌≡◌, refl, sym, ap, ◌∙◌}
 use mathlib.Core.Bool.{Bool, true, false, ◌&&◌, cond}
-use mathlib.Core.List.{List}
-use lib.ListN.{length, drop, length-drop, drop_of_length-le}
+use mathlib.Core.List.{List, [], ◌∷◌}
+use lib.ListN.{length, get_or, drop, length-drop, drop_of_length-le}
 use lib.Seq.{drop-cons}
 use lib.Dec.{leb, eqb}
 use native.Mathlib.Nat.{pow-suc, pow-le-pow_right}
@@ -11,10 +11,9 @@ use native.Mathlib.Numerals.{add-one}
 use native.Mathlib.Omega.{arith}
 use borrow.Author.Tests.{le-leb, lt-leb, leb-true}
 use Rattle.words.specs.Each.{all}
-use Rattle.words.proofs.Tests.{both}
+use Rattle.words.proofs.Tests.{both, false_true}
 use Rattle.sound_areas.specs.Rules.{longest_queue}
-use Rattle.names.specs.Names.{byte, pipe, digit, worth, number, numbered, named}
-use Rattle.names.specs.declared.Name.{Name}
+use Rattle.names.specs.Names.{good, number_in, byte, pipe, digit, worth, number, numbered, named}
 use Rattle.names.specs.declared.Name.TheVariants.{Pipe, Foreign, Unnumbered, Bare}
 
 module _ (s : List ℕ) (i : ℕ) (l : i < length s) where
@@ -75,40 +74,40 @@ module _ (s : List ℕ) where
     unfolding numbered number
     just_right h l m = rw (length-drop 5 s, le-leb 1 (length s - 5) (omega arith), le-leb (length s - 5) 5 (omega arith), h, le-leb 1 (worth 0 (drop 5 s)) l, le-leb (worth 0 (drop 5 s)) longest_queue m)
 
--- what a PIPE_n says of its n: it is the length of a queue
-abbrev Fits : Name → Type 0
-Fits (Pipe n) = (1 ≤ n) × (n ≤ longest_queue)
-Fits Foreign = Unit {0}
-Fits Unnumbered = Unit {0}
-Fits Bare = Unit {0}
-
-numbered_fits : (l : List ℕ) → Fits (numbered l)
-unfolding numbered number
-numbered_fits l = go (number l) refl
+small : (l : List ℕ) → number_in (numbered l) ≤ longest_queue
+unfolding numbered number_in number
+small l = go (number l) refl
   where
-    go : (b : Bool) → number l ≡ b → Fits (cond b (Pipe (worth 0 l)) Unnumbered)
-    go true h =
-        let w = both (leb 1 (worth 0 l)) (leb (worth 0 l) longest_queue) (both (all digit l) (leb 1 (worth 0 l) && leb (worth 0 l) longest_queue) (both (leb 1 (length l) && leb (length l) 5) (all digit l && (leb 1 (worth 0 l) && leb (worth 0 l) longest_queue)) h).1).1 in
-        (leb-true 1 (worth 0 l) w.0, leb-true (worth 0 l) longest_queue w.1)
-    go false h = tt
+    go : (b : Bool) → number l ≡ b → number_in (cond b (Pipe (worth 0 l)) Unnumbered) ≤ longest_queue
+    go true h = leb-true (worth 0 l) longest_queue (both (leb 1 (worth 0 l)) (leb (worth 0 l) longest_queue) (both (all digit l) (leb 1 (worth 0 l) && leb (worth 0 l) longest_queue) (both (leb 1 (length l) && leb (length l) 5) (all digit l && (leb 1 (worth 0 l) && leb (worth 0 l) longest_queue)) h).1).1).1
+    go false h = omega arith
 
-named_fits : (s : List ℕ) → Fits (named s)
-unfolding named
-named_fits s = go (pipe s) (eqb (length s) 4) (eqb (byte s 4) 95)
+-- the n of a good name is one that a queue can have
+least : (l : List ℕ) → good (numbered l) ≡ true → 1 ≤ number_in (numbered l)
+unfolding numbered number_in number good
+least l g = go (number l) refl g
   where
-    go : (a b c : Bool) → Fits (cond a (cond b Bare (cond c (numbered (drop 5 s)) Foreign)) Foreign)
-    go true true c = tt
-    go true false true = numbered_fits (drop 5 s)
-    go true false false = tt
-    go false b c = tt
+    go : (b : Bool) → number l ≡ b → good (cond b (Pipe (worth 0 l)) Unnumbered) ≡ true → 1 ≤ number_in (cond b (Pipe (worth 0 l)) Unnumbered)
+    go true h e = leb-true 1 (worth 0 l) (both (leb 1 (worth 0 l)) (leb (worth 0 l) longest_queue) (both (all digit l) (leb 1 (worth 0 l) && leb (worth 0 l) longest_queue) (both (leb 1 (length l) && leb (length l) 5) (all digit l && (leb 1 (worth 0 l) && leb (worth 0 l) longest_queue)) h).1).1).0
+    go false h e = absurd (false_true e)
 
--- the n of PIPE_n is the length of a queue
-module _ (s : List ℕ) (n : ℕ) (e : named s ≡ Pipe n) where
-  fits : (1 ≤ n) × (n ≤ longest_queue)
-  fits = subst Fits e (named_fits s)
+pub number_some : (s : List ℕ) → good (named s) ≡ true → 1 ≤ number_in (named s)
+unfolding named number_in good
+number_some s g = go (pipe s) (eqb (length s) 4) (eqb (byte s 4) 95) g
+  where
+    go : (a b c : Bool) → good (cond a (cond b Bare (cond c (numbered (drop 5 s)) Foreign)) Foreign) ≡ true → 1 ≤ number_in (cond a (cond b Bare (cond c (numbered (drop 5 s)) Foreign)) Foreign)
+    go true true c e = absurd (false_true e)
+    go true false true e = least (drop 5 s) e
+    go true false false e = absurd (false_true e)
+    go false b c e = absurd (false_true e)
 
-  pub number_some : 1 ≤ n
-  number_some = fits.0
-
-  pub number_small : n ≤ longest_queue
-  number_small = fits.1
+-- the n of a name is that of a queue
+pub number_small : (s : List ℕ) → number_in (named s) ≤ longest_queue
+unfolding named number_in
+number_small s = go (pipe s) (eqb (length s) 4) (eqb (byte s 4) 95)
+  where
+    go : (a b c : Bool) → number_in (cond a (cond b Bare (cond c (numbered (drop 5 s)) Foreign)) Foreign) ≤ longest_queue
+    go true true c = omega arith
+    go true false true = small (drop 5 s)
+    go true false false = omega arith
+    go false b c = omega arith

@@ -1,7 +1,7 @@
 // The reader of pipe names.
 ghost use Rattle.std.specs.Prelude.{◌≡◌, ◌≤◌, drop};
 ghost use Rattle.sound_areas.specs.Rules.{longest_queue};
-ghost use Rattle.names.specs.Names.{byte, letter, pipe, digit, numbered, named};
+ghost use Rattle.names.specs.Names.{key_of, good, number_in, byte, letter, pipe, digit, numbered, named};
 
 // PIPE_n with its n; a name that isn't PIPE; PIPE_ with no good number; bare PIPE.
 #[derive(Drop)]
@@ -18,6 +18,42 @@ const UNDERSCORE_AT: usize = 4;
 const DIGITS_AT: usize = 5;
 
 const MOST_DIGITS: usize = 5;
+
+// The key of each answer.
+pub fn key_of(name: Name) -> i32
+    ensures { result ≡ key_of name }
+{
+    match name {
+        Name::Pipe(_) => picture::DONE,
+        Name::Foreign => picture::NOT_FOUND,
+        Name::Unnumbered => picture::BAD_NAME,
+        Name::Bare => picture::BAD_PARAMETER,
+    }
+}
+
+// The name is PIPE_n.
+pub fn is_good(name: Name) -> bool
+    ensures { result ≡ good name }
+{
+    match name {
+        Name::Pipe(_) => true,
+        Name::Foreign => false,
+        Name::Unnumbered => false,
+        Name::Bare => false,
+    }
+}
+
+// The n of PIPE_n.
+pub fn number_in(name: Name) -> u32
+    ensures { result ≡ number_in name }
+{
+    match name {
+        Name::Pipe(n) => n,
+        Name::Foreign => 0,
+        Name::Unnumbered => 0,
+        Name::Bare => 0,
+    }
+}
 
 // The byte at i, 0 past the end.
 pub fn byte_at(name: &[u8], i: usize) -> u8

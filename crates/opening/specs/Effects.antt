@@ -1,11 +1,10 @@
 -- What opening a channel does to the picture and the registers (rule 90).
 use Rattle.std.specs.Prelude.{ℕ, ◌+◌, List}
-use Rattle.picture.specs.Records.{base, with_ending}
+use Rattle.picture.specs.Records.{with_ending}
 use Rattle.picture.specs.Numbers.{free_position}
 use Rattle.picture.specs.declared.Table.TheVariants.{Channels}
 use Rattle.picture.specs.declared.Area.TheVariants.{Heap}
 use Rattle.blocks.specs.Header.{queue_kind, with_queue_length, rounded}
-use Rattle.ends.specs.Ends.{output_end, input_end}
 use Rattle.placing.specs.Place.{placed}
 use Rattle.calls.specs.Registers.{with_D1, with_A0}
 use Rattle.rooms.specs.Room.{spot, header_byte}
@@ -19,17 +18,13 @@ queue_bytes n = rounded (32 + n)
 unfoldable pub queued : List ℕ → ℕ → ℕ → ℕ → List ℕ
 queued p i o n = with_queue_length (placed p i (queue_bytes n) queue_kind o 0) i n
 
--- the entry with tag g at position k, of owner o, for the queue at byte b: "Channel record: number, owner, block base", and which end e it is
-unfoldable pub channelled : List ℕ → ℕ → ℕ → ℕ → ℕ → ℕ → List ℕ
-channelled p k g o b e = with_ending (entered p Channels k g o b) k e
+-- the entry with tag g at position k, of owner o, for the queue at i: "Channel record: number, owner, block base, 1"
+unfoldable pub channelled : List ℕ → ℕ → ℕ → ℕ → ℕ → List ℕ
+channelled p k g o i = with_ending (entered p Channels k g o (header_byte i)) k 1
 
--- an output of owner o with a queue of length n
+-- a channel of owner o with a queue of length n
 unfoldable pub opened : List ℕ → ℕ → ℕ → List ℕ
-opened p o n = channelled (queued p (spot p Heap (queue_bytes n)) o n) (free_position p Channels) (next_tag p Channels) o (header_byte (spot p Heap (queue_bytes n))) output_end
-
--- an input of owner o at the queue of the channel at position j: "It reads that queue and has no block"
-unfoldable pub joined : List ℕ → ℕ → ℕ → List ℕ
-joined p o j = channelled p (free_position p Channels) (next_tag p Channels) o (base p Channels j) input_end
+opened p o n = channelled (queued p (spot p Heap (queue_bytes n)) o n) (free_position p Channels) (next_tag p Channels) o (spot p Heap (queue_bytes n))
 
 -- "D1 owner, A0 channel"
 unfoldable pub channel_registers : ℕ → ℕ → List ℕ → List ℕ

@@ -25,7 +25,7 @@ out_of_range = negsuc 3
 abbrev pub buffer_overflow : ℤ
 buffer_overflow = negsuc 4
 
--- -6: channel not live; D3 of an opening of bare PIPE names no live output; channel positions or tags used up
+-- -6: channel not live; channel positions or tags used up
 abbrev pub channel_not_open : ℤ
 channel_not_open = negsuc 5
 
@@ -33,15 +33,11 @@ channel_not_open = negsuc 5
 abbrev pub not_found : ℤ
 not_found = negsuc 6
 
--- -10: the queue is empty on fetch or pending, and its output is gone
-abbrev pub end_of_file : ℤ
-end_of_file = negsuc 9
-
 -- -12: PIPE_ followed by anything but 1 to 5 digits worth 1 to 32,766
 abbrev pub bad_name : ℤ
 bad_name = negsuc 11
 
--- -15: any other bad parameter, the wrong end of a queue, unknown call, registers not 8
+-- -15: any other bad parameter, unknown call, registers not 8
 abbrev pub bad_parameter : ℤ
 bad_parameter = negsuc 14
 

@@ -93,8 +93,6 @@ pub const CHANNEL_NOT_OPEN: i32 = -6;
 
 pub const NOT_FOUND: i32 = -7;
 
-pub const END_OF_FILE: i32 = -10;
-
 pub const BAD_NAME: i32 = -12;
 
 pub const BAD_PARAMETER: i32 = -15;

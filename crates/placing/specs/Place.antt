@@ -1,4 +1,4 @@
--- Document 01 (rule 98): "Placing takes the low end of the lowest free block whose length is enough; the rest stays free; room is cleared."
+-- Document 01 (rule 97): "Placing takes the low end of the lowest free block whose length is enough; the rest stays free; room is cleared."
 -- An area is the longwords from base up to e. In plain words: `placed_at_the_lowest` (law_placing/proofs/Rule.antt).
 use Rattle.std.specs.Prelude.{ℕ, ◌+◌, ◌-◌, ◌/◌, ◌≡◌, Bool, ◌&&◌, cond, List, [], ◌∷◌, leb, ltb}
 use Rattle.words.specs.Words.{clear}
@@ -17,11 +17,11 @@ abbrev pub first : (ℕ → Bool) → ℕ → List ℕ → ℕ
 first f e [] = e
 first f e (i ∷ l) = cond (f i) i (first f e l)
 
--- rule 98: the lowest free block whose length is enough for n bytes, e for none
+-- rule 97: the lowest free block whose length is enough for n bytes, e for none
 unfoldable pub chosen : List ℕ → ℕ → ℕ → ℕ → ℕ
 chosen p base e n = first (fits p n) e (starts p base e)
 
--- rule 98: the rest of the block at i after n bytes stays free
+-- rule 97: the rest of the block at i after n bytes stays free
 unfoldable pub split : List ℕ → ℕ → ℕ → List ℕ
 split p i n = cond (ltb n (size p i)) (header p (i + n / 4) (size p i - n) 0 0 0) p
 

@@ -1,4 +1,4 @@
--- Hexadecimal as it is read (rule 115). A text is a list of characters, and a place counts characters.
+-- Hexadecimal as it is read (rule 114). A text is a list of characters, and a place counts characters.
 use Rattle.std.specs.Prelude.{ℕ, zero, suc, ◌+◌, ◌-◌, ◌*◌, Bool, true, false, List, [], ◌∷◌, leb, ltb, get_or}
 use Rattle.program_digits.specs.declared.Read.{Read}
 use Rattle.program_digits.specs.declared.Read.TheVariants.{Number, Nothing}

@@ -1,4 +1,4 @@
--- The fields of a line that asks for an error text, as they are read (rules 122 and 127).
+-- The fields of a line that asks for an error text, as they are read (rules 121 and 126).
 use Rattle.std.specs.Prelude.{◌≡◌, Bool, true, false, List, [], ◌∷◌, ℕ, suc, ◌/◌, ◌%◌, ltb, eqb, length, get_or}
 use Rattle.std.proofs.lemmas.List.Edits.{sets}
 use Rattle.program_digits.specs.declared.Read.{Read}

@@ -1,4 +1,4 @@
--- How much a line may have (rules 124 and 127): no more than the rooms that are lent.
+-- How much a line may have (rules 123 and 126): no more than the rooms that are lent.
 use Rattle.std.specs.Prelude.{ℕ, ◌≤◌}
 use Rattle.program_fields.specs.declared.Count.{Count}
 use Rattle.program_fields.specs.declared.Count.TheVariants.{Of, Bad}

@@ -1,4 +1,4 @@
--- Where the lines of a text end (rule 114).
+-- Where the lines of a text end (rule 113).
 use Rattle.std.specs.Prelude.{List, [], ◌∷◌, ℕ, suc, ◌+◌, eqb, drop}
 use Rattle.program_digits.specs.Digits.{pick}
 

@@ -1,4 +1,4 @@
--- The session program's lines (rules 115 and 116): one frame a line, without its line feed.
+-- The session program's lines (rules 114 and 115): one frame a line, without its line feed.
 use Rattle.std.specs.Prelude.{◌≡◌, List, [], ◌∷◌, ℕ, ◌-◌, ◌/◌, ◌%◌, ltb, eqb, length}
 use Rattle.std.proofs.lemmas.List.Edits.{sets}
 use Rattle.program_digits.specs.Digits.{pick, digits, number, numbers}
@@ -13,18 +13,18 @@ pub data Frame : Type 0 where
   reports : ℕ → Frame
   traps : ℕ → List ℕ → List ℕ → Frame
 
--- rule 115: F0 and F1 have nothing after
+-- rule 114: F0 and F1 have nothing after
 unfoldable pub alone : List ℕ → Frame → Frame
 alone s f = pick (eqb (length s) 2) f bad
 
--- rule 115: a trap by the number n: eight registers, then, for trap 2 only, any name's bytes; fewer than 66 digits and digits left over are bad
+-- rule 114: a trap by the number n: eight registers, then, for trap 2 only, any name's bytes; fewer than 66 digits and digits left over are bad
 unfoldable pub trapped : ℕ → List ℕ → Frame
 trapped n s =
     pick (ltb (length s) 66) bad
     (pick (eqb n 2) (traps n (numbers s 2 8 8) (numbers s 66 2 ((length s - 66) / 2)))
     (pick (eqb (length s) 66) (traps n (numbers s 2 8 8) []) bad))
 
--- rule 115: F2 and exactly 8 digits
+-- rule 114: F2 and exactly 8 digits
 unfoldable pub reported : List ℕ → Frame
 reported s = pick (eqb (length s) 10) (reports (number s 2 8)) bad
 
@@ -32,7 +32,7 @@ reported s = pick (eqb (length s) 10) (reports (number s 2 8)) bad
 unfoldable pub called : ℕ → List ℕ → Frame
 called n s = pick (eqb n 0xF0) (alone s picks) (pick (eqb n 0xF1) (alone s ticks) (pick (eqb n 0xF2) (reported s) (trapped n s)))
 
--- rule 116: a line is bad if empty, over 512 characters, of an odd count, or with a character that is not hexadecimal
+-- rule 115: a line is bad if empty, over 512 characters, of an odd count, or with a character that is not hexadecimal
 unfoldable pub frame : List ℕ → Frame
 frame s =
     pick (eqb (length s) 0) bad

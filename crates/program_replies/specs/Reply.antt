@@ -1,4 +1,4 @@
--- The session program (rule 118): what a line gives, and the picture that it leaves.
+-- The session program (rule 117): what a line gives, and the picture that it leaves.
 use Rattle.std.specs.Prelude.{ℕ, ◌≤◌, ◌≡◌, List, [], ◌∷◌, length, take, drop}
 use Rattle.words.specs.Signed.{bits}
 use Rattle.picture.specs.Keys.{bad_parameter}

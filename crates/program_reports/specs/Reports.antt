@@ -1,4 +1,4 @@
--- What a session's line F2 gives (rule 118): "five fields of 8 digits a line (suspended 1 or 0), or the key".
+-- What a session's line F2 gives (rule 117): "five fields of 8 digits a line (suspended 1 or 0), or the key".
 use Rattle.std.specs.Prelude.{ℕ, ◌*◌, cond, List, [], ◌∷◌, map, ℤ}
 use Rattle.words.specs.Signed.{bits, eq_z}
 use Rattle.picture.specs.Keys.{done}

@@ -1,4 +1,4 @@
--- Document 01, the session program (rules 114, 117 and 118): the whole output as a function of the whole input.
+-- Document 01, the session program (rules 113, 116 and 117): the whole output as a function of the whole input.
 use Rattle.std.specs.Prelude.{ℕ, List, [], ◌∷◌, ◌++◌, ◌==◌}
 use Rattle.fresh.specs.Fresh.{fresh}
 use Rattle.program_digits.specs.Digits.{pick}

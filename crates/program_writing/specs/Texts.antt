@@ -1,4 +1,4 @@
--- Hexadecimal as it is written (rule 118): capitals, by itself and at a place of a text that is lent.
+-- Hexadecimal as it is written (rule 117): capitals, by itself and at a place of a text that is lent.
 use Rattle.std.specs.Prelude.{ℕ, zero, suc, ◌+◌, ◌*◌, ◌/◌, ◌%◌, Bool, List, [], ◌∷◌, ◌++◌, leb, ltb, length, set}
 use Rattle.program_digits.specs.Digits.{pick}
 

@@ -23,6 +23,6 @@ byte_word i j = i + queue_bytes_field + j / 4
 unfoldable pub byte_at : List ℕ → ℕ → ℕ → ℕ
 byte_at p i j = byte_in (word p (byte_word i j)) (weight j)
 
--- rule 97: the picture with b as byte j of the queue at i
+-- rule 96: the picture with b as byte j of the queue at i
 unfoldable pub with_byte_at : List ℕ → ℕ → ℕ → ℕ → List ℕ
 with_byte_at p i j b = put p (byte_word i j) (with_byte_in (word p (byte_word i j)) (weight j) b)

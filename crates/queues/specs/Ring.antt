@@ -10,7 +10,7 @@ pub record Ring (p : List ℕ) (i : ℕ) : Type 0 where
   pub oldest : queue_oldest p i < queue_length p i
   pub held : queue_count p i ≤ queue_length p i
 
--- rule 96: an index, "round at n"
+-- rule 95: an index, "round at n"
 unfoldable pub round : ℕ → ℕ → ℕ
 round n x = cond (ltb x n) x (x - n)
 
@@ -18,11 +18,11 @@ round n x = cond (ltb x n) x (x - n)
 unfoldable pub index : List ℕ → ℕ → ℕ → ℕ
 index p i j = round (queue_length p i) (queue_oldest p i + j)
 
--- rule 95: a byte waits
+-- rule 94: a byte waits
 unfoldable pub waits : List ℕ → ℕ → Bool
 waits p i = leb 1 (queue_count p i)
 
--- rule 97: the queue is full
+-- rule 96: the queue is full
 unfoldable pub full : List ℕ → ℕ → Bool
 full p i = leb (queue_length p i) (queue_count p i)
 
@@ -30,11 +30,11 @@ full p i = leb (queue_length p i) (queue_count p i)
 unfoldable pub oldest_byte : List ℕ → ℕ → ℕ
 oldest_byte p i = byte_at p i (queue_oldest p i)
 
--- rule 96: "takes the oldest .. the byte stays, the index steps up, round at n"
+-- rule 95: "takes the oldest .. the byte stays, the index steps up, round at n"
 unfoldable pub fetched : List ℕ → ℕ → List ℕ
 fetched p i = with_queue_count (with_queue_oldest p i (index p i 1)) i (queue_count p i - 1)
 
--- rule 97: "writes D1's low byte behind the newest"
+-- rule 96: "writes D1's low byte behind the newest"
 unfoldable pub sent : List ℕ → ℕ → ℕ → List ℕ
 sent p i b = with_queue_count (with_byte_at p i (index p i (queue_count p i)) b) i (queue_count p i + 1)
 

@@ -1,4 +1,4 @@
--- One line of a report (rule 108): "number, owner, depth below the top, priority, suspended or not".
+-- One line of a report (rule 107): "number, owner, depth below the top, priority, suspended or not".
 use Rattle.std.specs.Prelude.{ℕ, zero, suc, cond, not, List, eqb, pos}
 use Rattle.words.specs.Signed.{eq_z}
 use Rattle.picture.specs.Layout.{positions}

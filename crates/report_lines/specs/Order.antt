@@ -1,4 +1,4 @@
--- The members of a tree "in order of tag" (rule 108): the top, and behind each the member with the next greater tag, as $2 answers it.
+-- The members of a tree "in order of tag" (rule 107): the top, and behind each the member with the next greater tag, as $2 answers it.
 use Rattle.std.specs.Prelude.{ℕ, zero, suc, List, [], ◌∷◌}
 use Rattle.words.specs.Bits.{bit}
 use Rattle.words.specs.Each.{count}
@@ -9,7 +9,7 @@ use Rattle.asking.specs.Next.{next_member}
 use Rattle.report_lines.specs.declared.JobLine.{JobLine}
 use Rattle.report_lines.specs.Line.{line}
 
--- rule 107: how many members a set has
+-- rule 106: how many members a set has
 unfoldable pub size : ℕ → ℕ
 size m = count (bit m) (positions Jobs)
 

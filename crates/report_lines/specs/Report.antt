@@ -1,4 +1,4 @@
--- The report of a tree (rules 107 and 108): "an unsound picture answers -16, a top that isn't live -2, a table too short -5; none writes a line".
+-- The report of a tree (rules 106 and 107): "an unsound picture answers -16, a top that isn't live -2, a table too short -5; none writes a line".
 use Rattle.std.specs.Prelude.{ℕ, cond, List, [], ◌∷◌, leb, ℤ}
 use Rattle.words.specs.Signed.{eq_z}
 use Rattle.picture.specs.Keys.{done, buffer_overflow, not_sound}

@@ -1,4 +1,4 @@
--- What a report answers (rule 109): "the key and how many lines were written, 0 with a refusal".
+-- What a report answers (rule 108): "the key and how many lines were written, 0 with a refusal".
 use Rattle.std.specs.Prelude.{ℕ, List, length}
 use Rattle.report_lines.specs.Report.{report_key, report_lines}
 use Rattle.report_table.specs.declared.Report.{Report}

@@ -1,4 +1,4 @@
--- A line of a report as longwords (rule 118): "five fields .. a line (suspended 1 or 0)".
+-- A line of a report as longwords (rule 117): "five fields .. a line (suspended 1 or 0)".
 use Rattle.std.specs.Prelude.{ℕ, List, [], ◌∷◌}
 use Rattle.words.specs.Each.{one}
 use Rattle.report_lines.specs.declared.JobLine.{JobLine}

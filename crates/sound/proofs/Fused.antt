@@ -9,6 +9,7 @@ use lib.Dec.{leb}
 use borrow.Author.Tests.{eqb-true, eqb-false, ne_eqb, leb-true, not-true}
 use Rattle.words.specs.Each.{In}
 use Rattle.words.proofs.Tests.{both, either, same_test}
+use Rattle.words.proofs.Each.{all_at}
 use Rattle.picture.specs.Layout.{positions, upto}
 use Rattle.picture.specs.declared.Table.{Table}
 use Rattle.picture.specs.declared.Table.TheVariants.{Jobs, Channels}
@@ -17,7 +18,6 @@ use Rattle.picture.specs.declared.Area.TheVariants.{Heap, Transient}
 use Rattle.blocks.specs.Header.{kind, kind_of, job_kind, queue_kind, free}
 use Rattle.blocks.specs.Walk.{blocks}
 use Rattle.sound_matching.specs.Match.{area_of, block_matched}
-use Rattle.sound_matching.proofs.Ruled.{other_kind_matched}
 use Rattle.sound_entries.specs.Entries.{record_fine}
 use Rattle.sound_entries.proofs.Rules.{Entry, Job, Channel, job_is, is_job, channel_is, is_channel}
 use Rattle.sound_walks.proofs.Rules.{Block}
@@ -30,6 +30,11 @@ use Rattle.sound_whole.proofs.Whole.{Whole, whole_is, is_whole}
 use Rattle.sound.proofs.Halves.{Half, half_is, is_half, half_by, half_blocks, half_entries, half_held, half_block}
 
 module _ (p : List ℕ) where
+  -- a block of another kind is nobody's
+  other_kind_matched : (t : Table) (i : ℕ) → (kind p i ≡ kind_of t → ⊥) → block_matched p t i ≡ true
+  unfolding block_matched
+  other_kind_matched t i n = rw (ne_eqb (kind p i) (kind_of t) n)
+
   no_job : (i : ℕ) → kind_fits p Heap i ≡ true → kind p i ≡ job_kind → ⊥
   unfolding kind_fits
   no_job i h = eqb-false (kind p i) job_kind (not-true _ h)
@@ -67,10 +72,10 @@ module _ (p : List ℕ) where
     fits Transient i m = (block Transient i m).fits
 
     blocks_in : (t : Table) (a : Area) (i : ℕ) → In i (blocks p a) → block_matched p t i ≡ true
-    blocks_in Jobs Heap i m = other_kind_matched p Jobs i (no_job i (fits Heap i m))
-    blocks_in Jobs Transient i m = half_blocks p Jobs (h Jobs) i m
-    blocks_in Channels Heap i m = half_blocks p Channels (h Channels) i m
-    blocks_in Channels Transient i m = other_kind_matched p Channels i (no_queue i (fits Transient i m))
+    blocks_in Jobs Heap i m = other_kind_matched Jobs i (no_job i (fits Heap i m))
+    blocks_in Jobs Transient i m = all_at (block_matched p Jobs) (blocks p Transient) (half_blocks p Jobs (h Jobs)) i m
+    blocks_in Channels Heap i m = all_at (block_matched p Channels) (blocks p Heap) (half_blocks p Channels (h Channels)) i m
+    blocks_in Channels Transient i m = other_kind_matched Channels i (no_queue i (fits Transient i m))
 
     held : (a : Area) (i : ℕ) → In i (blocks p a) → holder_live p i ≡ true
     held Heap = half_held p Channels (h Channels) (λ k l. (entry Channels k l).owner)
@@ -84,7 +89,7 @@ module _ (p : List ℕ) where
     by_name Rule.priority_within = λ k l. (job k l).priority
     by_name Rule.accumulated_within = λ k l. (job k l).accumulated
     by_name Rule.timeout_within = λ k l. (job k l).timeout
-    by_name Rule.ends_known = λ k l. (channel k l).ending
+    by_name Rule.ends_in_one = λ k l. (channel k l).ending
     by_name (Rule.blank t) = λ k l. (entry t k l).unused
     by_name (Rule.positioned t) = λ k l. (entry t k l).place
     by_name Rule.zero_exists = λ k l. (job k l).nought
@@ -145,7 +150,7 @@ module _ (p : List ℕ) where
 
     record_by : (t : Table) (k : ℕ) → k < positions t → record_fine p t k ≡ true
     record_by Jobs k l = is_job p k (job_by k l)
-    record_by Channels k l = is_channel p k (record { entry = entry_by Channels k l; ending = h Rule.ends_known k l })
+    record_by Channels k l = is_channel p k (record { entry = entry_by Channels k l; ending = h Rule.ends_in_one k l })
 
     block_by : (t : Table) (i : ℕ) → In i (blocks p (area_of t)) → Block p t (upto p (area_of t)) i
     block_by t i m = record {

@@ -17,18 +17,16 @@ use Rattle.picture.specs.declared.Table.TheVariants.{Jobs, Channels}
 use Rattle.blocks.specs.Header.{kind, kind_of, holder}
 use Rattle.blocks.specs.Walk.{blocks}
 use Rattle.blocks.proofs.Starts.{starts_in}
-use Rattle.sound_matching.specs.Match.{area_of, has_block, block_matched, entry_matched}
+use Rattle.sound_matching.specs.Match.{area_of, first, has_block, block_matched, entry_matched}
 use Rattle.sound_matching.specs.Agreed.{agreed}
-use Rattle.sound_matching.proofs.Entries.{has_block_used, has_block_heads, has_block_by}
-use Rattle.sound_matching.proofs.Counts.{block_once, entry_home, Matches, heirs_blocks, counts_entries, entries_counts}
-use Rattle.sound_matching.proofs.Matched.{Matched, matched_one_to_one, homes_matched, blocks_matched}
-use Rattle.sound_matching.proofs.Ruled.{matched, matched_entries, matched_blocks}
+use Rattle.sound_matching.proofs.Counts.{Matches, heirs_blocks, counts_entries, entries_counts}
+use Rattle.sound_matching.proofs.Matched.{Matched, matched}
 use Rattle.sound_matching.proofs.Agreeing.{agreed_some, some_agreed}
 use Rattle.sound_records.specs.Rules.{may_be_unowned, owner_live}
 use Rattle.sound_areas.specs.Rules.{holder_live}
 use Rattle.sound_matching.specs.declared.Walked.TheVariants.{Broken, Counted}
 use Rattle.sound_entries.specs.Entries.{record_fine, entries_walked}
-use Rattle.sound_entries.proofs.Rules.{placed_ordinary}
+use Rattle.sound_entries.proofs.Rules.{placed_has_block}
 use Rattle.sound_walks.specs.Walks.{block_fine, blocks_walked}
 use Rattle.sound_walks.proofs.Rules.{Block, block_is, is_block, fine_agreed, fine_held}
 use Rattle.sound.specs.Test.{as_many, half_fine}
@@ -74,27 +72,21 @@ module _ (p : List ℕ) (t : Table) where
         let g = agreed_some p t i (fine_agreed p i t (upto p (area_of t)) (q.fine i m) s) in
         let z = g.1.place in
         let l = home_past i m in
-        (g.0, (g.1.below, record { has = has_block_by p t g.0 (placed_ordinary p g.0 t (q.records g.0 g.1.below) (omega arith)) g.1.heading; sorts = s; place = g.1.place; held = g.1.held }))
+        (g.0, (g.1.below, record { has = placed_has_block p g.0 t (q.records g.0 g.1.below) (omega arith); sorts = s; place = g.1.place; held = g.1.held }))
 
-    -- so they match one to one
-    half_matched : Matched p t
-    half_matched =
-        let b = heirs_blocks p t heir q.counts in
-        matched_one_to_one p t (all_at (block_once p t) homes b) (every_at (entry_home p t) (positions t) (counts_entries p t b q.counts))
-
-    pub half_blocks : (i : ℕ) → In i homes → block_matched p t i ≡ true
-    half_blocks = matched_blocks p t half_matched
+    pub half_blocks : all (block_matched p t) homes ≡ true
+    half_blocks = heirs_blocks p t heir q.counts
 
     pub half_entries : (k : ℕ) → k < positions t → entry_matched p t k ≡ true
-    half_entries = matched_entries p t half_matched
+    half_entries = every_at (entry_matched p t) (positions t) (counts_entries p t half_blocks q.counts)
 
     -- the owner of a block of the table's kind is its record's, and so is live
     heir_held : ((k : ℕ) → k < positions t → owner_live p t k ≡ true) → (i : ℕ) → In i homes → kind p i ≡ kind_of t → holder_live p i ≡ true
-    unfolding owner_live holder_live
+    unfolding owner_live holder_live has_block
     heir_held o i m s =
         let h = heir i m s in
         let w = h.1.1 in
-        let u = has_block_used p t h.0 w.has in
+        let u = (both (leb (first t) h.0) (used p t h.0) w.has).1 in
         live_then t s (rw w.held at (unless (used p t h.0) _ (o h.0 h.1.0) u))
       where
         live_then : (t : Table) → kind p i ≡ kind_of t → (may_be_unowned t && eqb (holder p i) nobody) || live p Jobs (holder p i) ≡ true → holder_live p i ≡ true
@@ -113,11 +105,11 @@ module _ (p : List ℕ) (t : Table) where
   half_by r b c h o = record {
     records = r;
     fine = λ i m. is_block p i t (upto p (area_of t)) (b i m) (λ s. agrees i (M.heir i m s)) (o i m);
-    counts = entries_counts p t (all_by (block_once p t) homes (blocks_matched p t M)) (every_by (entry_home p t) (positions t) (homes_matched p t M));
+    counts = entries_counts p t (all_by (block_matched p t) homes c) (every_by (entry_matched p t) (positions t) h);
   }
     where
       M : Matched p t
       M = matched p t c h
 
       agrees : (i : ℕ) → (k : ℕ) × ((k < positions t) × Matches p t k i) → agreed p t i ≡ true
-      agrees i x = some_agreed p t i x.0 (record { below = x.1.0; place = x.1.1.place; held = x.1.1.held; heading = has_block_heads p t x.0 x.1.1.has })
+      agrees i x = some_agreed p t i x.0 (record { below = x.1.0; place = x.1.1.place; held = x.1.1.held })

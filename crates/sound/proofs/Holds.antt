@@ -20,7 +20,7 @@ Passes p (whole f) = f p ≡ true
 Passes p (each_record t f) = (k : ℕ) → k < positions t → f p k ≡ true
 Passes p (each_block f) = (a : Area) (i : ℕ) → In i (blocks p a) → f p a i ≡ true
 
-pub passes_is : (p : List ℕ) (t : Test) → passes p t ≡ true → Passes p t
+passes_is : (p : List ℕ) (t : Test) → passes p t ≡ true → Passes p t
 passes_is p (whole f) h = h
 passes_is p (each_record t f) h = every_at (f p) (positions t) h
 passes_is p (each_block f) h = by (both _ _ h)
@@ -54,7 +54,7 @@ listed Rule.zero_base = search lists depth 64
 listed Rule.priority_within = search lists depth 64
 listed Rule.accumulated_within = search lists depth 64
 listed Rule.timeout_within = search lists depth 64
-listed Rule.ends_known = search lists depth 64
+listed Rule.ends_in_one = search lists depth 64
 listed (Rule.blank Jobs) = search lists depth 64
 listed (Rule.blank Channels) = search lists depth 64
 listed (Rule.positioned Jobs) = search lists depth 64

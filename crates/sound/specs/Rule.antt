@@ -12,7 +12,7 @@ pub data Rule : Type 0 where
   priority_within : Rule
   accumulated_within : Rule
   timeout_within : Rule
-  ends_known : Rule
+  ends_in_one : Rule
   blank : Table → Rule
   positioned : Table → Rule
   zero_exists : Rule
@@ -48,7 +48,7 @@ rules =
     priority_within ∷
     accumulated_within ∷
     timeout_within ∷
-    ends_known ∷
+    ends_in_one ∷
     blank Jobs ∷
     blank Channels ∷
     positioned Jobs ∷

@@ -8,7 +8,7 @@ use Rattle.picture.specs.declared.Area.{Area}
 use Rattle.picture.specs.declared.Area.TheVariants.{Heap, Transient}
 use Rattle.blocks.specs.Walk.{blocks}
 use Rattle.sound_matching.specs.Match.{block_matched, entry_matched}
-use Rattle.sound_records.specs.Rules.{zero_base, priority_within, accumulated_within, timeout_within, ends_known, blank, positioned, zero_exists, tag_within, tag_once, owner_live, owner_older, zero_unowned, tag_given, wait_allowed, idle_zero}
+use Rattle.sound_records.specs.Rules.{zero_base, priority_within, accumulated_within, timeout_within, ends_in_one, blank, positioned, zero_exists, tag_within, tag_once, owner_live, owner_older, zero_unowned, tag_given, wait_allowed, idle_zero}
 use Rattle.sound_areas.specs.Rules.{length_whole, kind_known, start_zero, free_blank, queue_room, tiles, untouched, kind_fits, holder_live}
 use Rattle.sound_whole.specs.Whole.{size_stated, seven_zero, heap_stated, last_within, current_ready}
 use Rattle.sound.specs.Rule.{Rule, rules}
@@ -33,7 +33,7 @@ test Rule.zero_base = each_record Jobs zero_base
 test Rule.priority_within = each_record Jobs priority_within
 test Rule.accumulated_within = each_record Jobs accumulated_within
 test Rule.timeout_within = each_record Jobs timeout_within
-test Rule.ends_known = each_record Channels ends_known
+test Rule.ends_in_one = each_record Channels ends_in_one
 test (Rule.blank t) = each_record t (λ (p : List ℕ) (k : ℕ). blank p t k)
 test (Rule.positioned t) = each_record t (λ (p : List ℕ) (k : ℕ). positioned p t k)
 test Rule.zero_exists = each_record Jobs zero_exists

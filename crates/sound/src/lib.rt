@@ -8,9 +8,6 @@ ghost use Rattle.sound.specs.Test.{half_fine};
 use picture::{Area, Table};
 use sound_matching::Walked;
 
-// The note that there is none.
-const NONE: u8 = 255;
-
 // The area where a table's blocks lie.
 pub fn area_of(t: Table) -> Area
     ensures { result ≡ area_of t }
@@ -26,7 +23,7 @@ pub fn is_half_fine(p: &[u32], t: Table) -> bool
     requires { whole_fine p.now ≡ true }
     ensures { result ≡ half_fine p.now t }
 {
-    let mut noted = [NONE; 64];
+    let mut noted = [0u8; 64];
     let walked = sound_entries::walk_entries(p, t, &mut noted);
     let Walked::Counted(n) = walked else {
         return false;

@@ -1,4 +1,3 @@
 -- Laws of the definitions of specs/.
-pub mod Notes
 pub mod Passed
 pub mod Rules

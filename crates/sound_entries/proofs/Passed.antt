@@ -17,29 +17,27 @@ use Rattle.picture.specs.Layout.{positions}
 use Rattle.picture.specs.Records.{number, used}
 use Rattle.picture.specs.Numbers.{tag}
 use Rattle.picture.specs.declared.Table.{Table}
+use Rattle.sound_matching.specs.Match.{first, has_block}
 use Rattle.sound_matching.specs.declared.Walked.TheVariants.{Broken, Counted}
 use Rattle.sound_records.specs.Rules.{tags_differ, tag_once}
-use Rattle.sound_entries.specs.Entries.{live_fine, blank_fine, note_of, told_once, several, with_note, record_fine, entries_walked, counted_first, counted_then, with_position, Bare, FirstNoted}
-use Rattle.sound_entries.proofs.Notes.{first_used, counted_both, none_then, first_none, first_next, first_with}
+use Rattle.sound_records.proofs.Used.{has_block_used}
+use Rattle.sound_entries.specs.Entries.{live_fine, blank_fine, note_of, told_once, several, with_note, record_fine, entries_walked}
 
 module _ (p : List ℕ) (t : Table) where
   -- the last six bits of the tag at position j
   abbrev pub low : ℕ → ℕ
   low j = tag (number p t j) % 64
 
-  -- the records below k are fine, m of them live, n of them counted first and noted, and under the low bits of every tag in use its position is noted, or that there are several
-  pub record Passed (k n m : ℕ) (seen notes : List ℕ) : Type 0 where
+  -- the records below k are fine, n of them have a block, and under the low bits of every tag in use its position is noted, or that there are several
+  pub record Passed (k n : ℕ) (seen : List ℕ) : Type 0 where
     pub few : n ≤ k
     pub fine : every (record_fine p t) k ≡ true
-    pub many : m ≤ k
-    pub live : m ≡ count (used p t) k
-    pub count : n ≡ count (counted_first p t) k
-    pub first : FirstNoted p t k notes
+    pub count : n ≡ count (has_block p t) k
     pub room : length seen ≡ 64
     pub noted : (j : ℕ) → j < k → used p t j ≡ true → (get_or seen (low j) 0 ≡ j + 1) ⊎ (get_or seen (low j) 0 ≡ several)
 
-  pub passed_none : (seen notes : List ℕ) → length seen ≡ 64 → Bare t notes → Passed 0 0 0 seen notes
-  passed_none seen notes r b = record { few = omega arith; fine = refl; count = refl; many = omega arith; live = refl; first = first_none p t notes b; room = r; noted = λ j l u. absurd (omega arith) }
+  pub passed_none : (seen : List ℕ) → length seen ≡ 64 → Passed 0 0 seen
+  passed_none seen r = record { few = omega arith; fine = refl; count = refl; room = r; noted = λ j l u. absurd (omega arith) }
 
   blank_record : (k : ℕ) → used p t k ≡ false → record_fine p t k ≡ blank_fine p t k
   unfolding record_fine
@@ -60,9 +58,9 @@ module _ (p : List ℕ) (t : Table) where
       go true v true w = rw (v, w) at (f v (eqb-true _ _ w))
 
   -- the tag at k is used once: what is told by its note is told of every lower position that has the same bits
-  once : (k n a : ℕ) (seen notes : List ℕ) → Passed k n a seen notes → k < several → used p t k ≡ true → told_once p t k (note_of p t k seen) ≡ true → tag_once p t k ≡ true
+  once : (k n : ℕ) (seen : List ℕ) → Passed k n seen → k < several → used p t k ≡ true → told_once p t k (note_of p t k seen) ≡ true → tag_once p t k ≡ true
   unfolding tag_once told_once
-  once k n a seen notes q m u h = rw u (every_by (tags_differ p t k) k (λ j l. differs_by k j (told j l)))
+  once k n seen q m u h = rw u (every_by (tags_differ p t k) k (λ j l. differs_by k j (told j l)))
     where
       told : (j : ℕ) → j < k → used p t j ≡ true → tag (number p t j) ≡ tag (number p t k) → tags_differ p t k j ≡ true
       told j l v e = ⊎_elim
@@ -75,16 +73,14 @@ module _ (p : List ℕ) (t : Table) where
           every_at (tags_differ p t k) k (rw (y, lt-leb several k m) at h) j l)
           (q.noted j l v)
 
-  pub passed_blank : (k n a : ℕ) (seen notes : List ℕ) → Passed k n a seen notes → used p t k ≡ false → blank_fine p t k ≡ true → Passed (k + 1) n a seen notes
-  passed_blank k n a seen notes q u h =
+  pub passed_blank : (k n : ℕ) (seen : List ℕ) → Passed k n seen → used p t k ≡ false → blank_fine p t k ≡ true → Passed (k + 1) n seen
+  unfolding has_block
+  passed_blank k n seen q u h =
       let f = q.few in
       record {
         few = omega arith;
         fine = every_next (record_fine p t) k q.fine (blank_record k u ∙ h);
-        count = (let z : n ≡ n + 0 = omega arith in z) ∙ count_next (counted_first p t) k n 0 q.count (sym (ap one (first_used p t k u)));
-        many = let g = q.many in omega arith;
-        live = (let z : a ≡ a + 0 = omega arith in z) ∙ count_next (used p t) k a 0 q.live (sym (ap one u));
-        first = first_next p t k notes q.first (first_used p t k u);
+        count = (let z : n ≡ n + 0 = omega arith in z) ∙ count_next (has_block p t) k n 0 q.count (sym (ap one (fails_right (leb (first t) k) (used p t k) u)));
         room = q.room;
         noted = λ j l v. ⊎_elim
             (λ (e : j ≡ k). absurd (false_true (sym u ∙ ap (used p t) (sym e) ∙ v)))
@@ -92,18 +88,15 @@ module _ (p : List ℕ) (t : Table) where
             (eq-or-lt_of_le (omega arith));
       }
 
-  pub passed_live : (k n a r : ℕ) (seen notes : List ℕ) → Passed k n a seen notes → k < positions t → k < several → used p t k ≡ true → live_fine p t k ≡ true → told_once p t k (note_of p t k seen) ≡ true
-      → r ≡ one (counted_first p t k) → r ≤ 1 → Passed (k + 1) (n + r) (a + 1) (with_note p t k seen) (with_position p t k notes)
+  pub passed_live : (k n r : ℕ) (seen : List ℕ) → Passed k n seen → k < several → used p t k ≡ true → live_fine p t k ≡ true → told_once p t k (note_of p t k seen) ≡ true
+      → r ≡ one (leb (first t) k) → r ≤ 1 → Passed (k + 1) (n + r) (with_note p t k seen)
   unfolding with_note
-  passed_live k n a r seen notes q b m u h o w z =
+  passed_live k n r seen q m u h o w z =
       let f = q.few in
       record {
         few = omega arith;
-        fine = every_next (record_fine p t) k q.fine (rw (live_record k u, h, once k n a seen notes q m u o));
-        count = count_next (counted_first p t) k n r q.count w;
-        many = let g = q.many in omega arith;
-        live = count_next (used p t) k a 1 q.live (sym (ap one u));
-        first = first_with p t k notes b q.first;
+        fine = every_next (record_fine p t) k q.fine (rw (live_record k u, h, once k n seen q m u o));
+        count = count_next (has_block p t) k n r q.count (w ∙ ap one (sym (has_block_used p t k u)));
         room = length-set seen (low k) _ ∙ q.room;
         noted = λ j l v. noted_then j l v (eqb (low j) (low k)) refl;
       }
@@ -157,16 +150,6 @@ module _ (p : List ℕ) (t : Table) where
           every_not (tags_differ p t k) k (note - 1) (omega arith) r
       go false x false y r = r
 
-  pub passed_all : (k n a r : ℕ) (seen notes : List ℕ) → Passed k n a seen notes → k ≡ positions t → r ≡ count (counted_then p t) (positions t) → Counted (n + r) ≡ entries_walked p t
+  pub passed_all : (k n : ℕ) (seen : List ℕ) → Passed k n seen → k ≡ positions t → Counted n ≡ entries_walked p t
   unfolding entries_walked
-  passed_all k n a r seen notes q e z =
-      let f : every (record_fine p t) (positions t) ≡ true = rw e at q.fine in
-      let c : n ≡ count (counted_first p t) (positions t) = rw e at q.count in
-      rw f (ap Counted (rw (c, z) (sym (counted_both p t (positions t)))))
-
-  -- as many are counted as are live: nothing is left to count
-  pub passed_whole : (k n a : ℕ) (seen notes : List ℕ) → Passed k n a seen notes → k ≡ positions t → n ≡ a → Counted n ≡ entries_walked p t
-  passed_whole k n a seen notes q e z =
-      let c : count (counted_first p t) (positions t) ≡ count (used p t) (positions t) = rw e at (sym q.count ∙ z ∙ q.live) in
-      let s : n ≡ n + 0 = omega arith in
-      ap Counted s ∙ passed_all k n a 0 seen notes q e (sym (none_then p t (positions t) c))
+  passed_all k n seen q e = rw (← e, q.fine) (ap Counted q.count)

@@ -12,9 +12,9 @@ use Rattle.picture.specs.Records.{all_zero, base, number, used}
 use Rattle.picture.specs.declared.Table.{Table}
 use Rattle.picture.specs.declared.Table.TheVariants.{Jobs, Channels}
 use Rattle.picture.proofs.Records.{shared, all_zero_at}
-use Rattle.sound_matching.specs.Match.{first, ordinary}
-use Rattle.sound_records.specs.Rules.{zero_base, priority_within, accumulated_within, timeout_within, ends_known, blank, positioned, zero_exists, tag_within, tag_once, owner_live, owner_older, zero_unowned, tag_given, wait_allowed, idle_zero}
-use Rattle.sound_records.proofs.Used.{ordinary_used}
+use Rattle.sound_matching.specs.Match.{first, has_block}
+use Rattle.sound_records.specs.Rules.{zero_base, priority_within, accumulated_within, timeout_within, ends_in_one, blank, positioned, zero_exists, tag_within, tag_once, owner_live, owner_older, zero_unowned, tag_given, wait_allowed, idle_zero}
+use Rattle.sound_records.proofs.Used.{has_block_used}
 use Rattle.sound_entries.specs.Entries.{entry_fine, zero_fine, live_fine, blank_fine, record_fine}
 
 -- the rules of a record of either table, of a job and of a channel
@@ -40,7 +40,7 @@ pub record Job (p : List ℕ) (k : ℕ) : Type 0 where
 
 pub record Channel (p : List ℕ) (k : ℕ) : Type 0 where
   pub entry : Entry p Channels k
-  pub ending : ends_known p k ≡ true
+  pub ending : ends_in_one p k ≡ true
 
 module _ (p : List ℕ) (t : Table) (k : ℕ) where
   live_then : used p t k ≡ true → record_fine p t k ≡ true → (live_fine p t k ≡ true) × (tag_once p t k ≡ true)
@@ -71,7 +71,7 @@ module _ (p : List ℕ) (t : Table) (k : ℕ) where
 
   -- not in use: zeros keep them all
   unused_entry : used p t k ≡ false → all_zero p t k ≡ true → Entry p t k
-  unfolding blank positioned tag_within tag_once owner_live tag_given ordinary
+  unfolding blank positioned tag_within tag_once owner_live tag_given has_block
   unused_entry u z = record {
     unused = rw (u, z);
     place = rw u;
@@ -136,7 +136,7 @@ module _ (p : List ℕ) (k : ℕ) where
       go false u = then_blank p Jobs k u (job_blank u j) (entry_unused p Jobs k u j.entry)
 
   pub channel_is : record_fine p Channels k ≡ true → Channel p k
-  unfolding live_fine ends_known
+  unfolding live_fine ends_in_one
   channel_is h = go (used p Channels k) refl
     where
       go : (b : Bool) → used p Channels k ≡ b → Channel p k
@@ -157,10 +157,10 @@ module _ (p : List ℕ) (k : ℕ) where
   past_first Channels r c = omega arith
   past_first Jobs r c = ⊎_elim (at_least k) (λ (e : eqb (base p Jobs k) 0 ≡ true). let z = eqb-true (base p Jobs k) 0 e in absurd (omega arith)) (either _ _ (job_is r).base)
 
-  -- a fine record that says where a block is: one of an entry other than job 0
-  pub placed_ordinary : (t : Table) → record_fine p t k ≡ true → 0 < base p t k → ordinary p t k ≡ true
-  placed_ordinary t h b = go (used p t k) refl
+  -- a fine record that says where a block is: an entry that has a block
+  pub placed_has_block : (t : Table) → record_fine p t k ≡ true → 0 < base p t k → has_block p t k ≡ true
+  placed_has_block t h b = go (used p t k) refl
     where
-      go : (a : Bool) → used p t k ≡ a → ordinary p t k ≡ true
-      go true u = ordinary_used p t k u ∙ le-leb (first t) k (past_first t h b)
+      go : (a : Bool) → used p t k ≡ a → has_block p t k ≡ true
+      go true u = has_block_used p t k u ∙ le-leb (first t) k (past_first t h b)
       go false u = let z = all_zero_at p t k (blank_then p t k u h).1 2 (shared t 2 (omega arith)) in absurd (omega arith)

@@ -1,17 +1,12 @@
 // The test of a table, record by record in one pass, of a picture that has its tables.
-ghost use Rattle.std.specs.Prelude.{◌≡◌, true, false, ◌+◌, ◌<◌, ◌≤◌, length};
+ghost use Rattle.std.specs.Prelude.{◌≡◌, true, ◌<◌, ◌≤◌, length};
 ghost use Rattle.picture.specs.Layout.{positions, heap_base};
-ghost use Rattle.words.specs.Each.{one, count};
 ghost use Rattle.picture.specs.Records.{used};
 ghost use Rattle.picture.specs.declared.Table.TheVariants.{Jobs, Channels};
-ghost use Rattle.ends.specs.Ends.{is_output};
-ghost use Rattle.sound_matching.specs.Agreed.{Noted};
 ghost use Rattle.sound_entries.specs.Entries.{note_of, told_once, with_note};
-ghost use Rattle.sound_entries.specs.Entries.{counted_first, counted_then, place, with_position, Bare, FirstNoted, EndsNoted};
 ghost use Rattle.sound_entries.specs.Entries.{entry_fine, zero_fine, live_fine, blank_fine, entries_walked};
 
 use picture::Table;
-use picture_tables::field_of;
 use sound_matching::Walked;
 
 // The note that several positions have the same last six bits of their tags.
@@ -83,7 +78,7 @@ pub fn is_channel_fine(p: &[u32], k: usize) -> bool
     if !is_entry_fine(p, Table::Channels, k) {
         return false;
     }
-    sound_records::ends_known(p, k)
+    sound_records::ends_in_one(p, k)
 }
 
 // The rules of a record in use, but that its tag is used once.
@@ -128,111 +123,15 @@ pub fn is_tag_once(p: &[u32], t: Table, k: usize, seen: &mut [u8; 64]) -> bool
     sound_records::tag_alone(p, t, k)
 }
 
-// The entry in use at position k is counted with its record: a job other than job 0, and an output.
-pub fn is_counted_first(p: &[u32], t: Table, k: usize) -> bool
-    requires { (heap_base ≤ length p.now) × ((k < positions t) × (used p.now t k ≡ true)) }
-    ensures { result ≡ counted_first p.now t k }
-{
-    match t {
-        Table::Jobs => 1 <= k,
-        Table::Channels => ends::is_output(p, k),
-    }
-}
-
-// The place of an entry's block among the notes.
-fn place_of(p: &[u32], t: Table, k: usize) -> usize
-    requires { (heap_base ≤ length p.now) × (k < positions t) }
-    ensures { (result ≡ place p.now t k) × (result < 64) }
-{
-    (field_of(p, t, k, picture::BASE) / 16 % 64) as usize
-}
-
-// Counts the entry in use at position k, and notes its position under its block's place, if it is counted with its record.
-pub fn note_entry(p: &[u32], t: Table, k: usize, noted: &mut [u8; 64]) -> usize
-    requires { (heap_base ≤ length p.now) × ((k < positions t) × (used p.now t k ≡ true)) }
-    ensures value { (result ≡ one (counted_first p.now t k)) × (result ≤ 1) }
-    ensures noted_after { noted.new ≡ with_position p.now t k noted.old }
-{
-    if !is_counted_first(p, t, k) {
-        return 0;
-    }
-    noted[place_of(p, t, k)] = k as u8;
-    1
-}
-
-// Counts the input in use at position k if it leads its queue. Noted are the outputs and the lower inputs that lead: where nothing is noted under its
-// place, it leads; where an end of its queue is, that one does; and all are looked at where two queues have one place.
-pub fn count_input(p: &[u32], k: usize, noted: &mut [u8; 64]) -> usize
-    requires { (heap_base ≤ length p.now) × ((k < positions Channels) × ((used p.now Channels k ≡ true) × ((is_output p.now k ≡ false) × EndsNoted p.now k noted.old))) }
-    ensures value { (result ≡ one (counted_then p.now Channels k)) × (result ≤ 1) }
-    ensures ends_noted { EndsNoted p.now (k + 1) noted.new }
-{
-    let h = place_of(p, Table::Channels, k);
-    let j = sound_matching::wide(noted[h]);
-    if picture::CHANNELS <= j {
-        noted[h] = k as u8;
-        return 1;
-    }
-    if field_of(p, Table::Channels, j, picture::BASE)
-        == field_of(p, Table::Channels, k, picture::BASE)
-    {
-        return 0;
-    }
-    sound_matching::one_of(ends::none_ahead(p, k))
-}
-
-// Counts the record at position k if it is an input's that leads its queue.
-pub fn count_end(p: &[u32], k: usize, noted: &mut [u8; 64]) -> usize
-    requires { (heap_base ≤ length p.now) × ((k < positions Channels) × EndsNoted p.now k noted.old) }
-    ensures value { (result ≡ one (counted_then p.now Channels k)) × (result ≤ 1) }
-    ensures ends_noted { EndsNoted p.now (k + 1) noted.new }
-{
-    if !picture_tables::is_used(p, Table::Channels, k) {
-        return 0;
-    }
-    if ends::is_output(p, k) {
-        return 0;
-    }
-    count_input(p, k, noted)
-}
-
-// Counts the inputs that lead their queues, and notes them, where all outputs are noted.
-pub fn count_inputs(p: &[u32], noted: &mut [u8; 64]) -> usize
-    requires { (heap_base ≤ length p.now) × EndsNoted p.now 0 noted.old }
-    ensures value { (result ≡ count (counted_then p.now Channels) (positions Channels)) × (result ≤ 64) }
-    ensures noted { Noted p.now Channels noted.new }
-{
-    let mut n = 0;
-    let mut k = 0;
-    while k < picture::CHANNELS {
-        n += count_end(p, k, noted);
-        k += 1;
-    }
-    n
-}
-
-// Counts the entries that aren't counted with their records, and notes them.
-pub fn count_rest(p: &[u32], t: Table, noted: &mut [u8; 64]) -> usize
-    requires { (heap_base ≤ length p.now) × FirstNoted p.now t (positions t) noted.old }
-    ensures value { (result ≡ count (counted_then p.now t) (positions t)) × (result ≤ 64) }
-    ensures noted { Noted p.now t noted.new }
-{
-    match t {
-        Table::Jobs => 0,
-        Table::Channels => count_inputs(p, noted),
-    }
-}
-
-// A walk over the table. It notes the position of each entry that has a block under that block's place, and each under the last six bits of its tag.
-// Where each live entry is counted with its record there is nothing left to count.
+// A walk over the table. It notes the position of each entry under its block's place, and under the last six bits of its tag, which only say where to
+// look first.
 pub fn walk_entries(p: &[u32], t: Table, noted: &mut [u8; 64]) -> Walked
-    requires { (heap_base ≤ length p.now) × Bare t noted.old }
-    ensures value { result ≡ entries_walked p.now t }
-    ensures noted { Noted p.now t noted.new }
+    requires { heap_base ≤ length p.now }
+    ensures { result ≡ entries_walked p.now t }
 {
     let n = picture::positions_of(t);
+    let first = sound_matching::first_of(t);
     let mut seen = [0u8; 64];
-    let mut live = 0;
     let mut entries = 0;
     let mut k = 0;
     while k < n {
@@ -249,13 +148,9 @@ pub fn walk_entries(p: &[u32], t: Table, noted: &mut [u8; 64]) -> Walked
         if !is_tag_once(p, t, k, &mut seen) {
             return Walked::Broken;
         }
-        live += 1;
-        entries += note_entry(p, t, k, noted);
+        noted[(picture_tables::field_of(p, t, k, picture::BASE) / 16 % 64) as usize] = k as u8;
+        entries += sound_matching::one_of(first <= k);
         k += 1;
     }
-    if entries == live {
-        return Walked::Counted(entries);
-    }
-    entries += count_rest(p, t, noted);
     Walked::Counted(entries)
 }

@@ -23,12 +23,11 @@ use Rattle.blocks.specs.Header.{size, kind, kind_of, queue_kind, job_kind, holde
 use Rattle.blocks.specs.Walk.{good, next, starts, blocks}
 use Rattle.blocks.proofs.Walk.{Good, is_good, good_is, next_good, next_up, next_le, starts_end, starts_more}
 use Rattle.blocks.proofs.Starts.{starts_in, next_same}
-use Rattle.ends.proofs.Ends.{EndsSame, leads_same}
-use Rattle.sound_matching.specs.Match.{area_of, ordinary, has_block}
-use Rattle.sound_matching.proofs.Entries.{ordinary_is_used}
+use Rattle.sound_matching.specs.Match.{first, area_of, has_block}
 use Rattle.sound_matching.proofs.Counts.{Matches}
 use Rattle.sound_matching.proofs.Matched.{Matched}
 use Rattle.sound_records.specs.Rules.{may_be_unowned}
+use Rattle.sound_facts.proofs.View.{has_block_used}
 use Rattle.sound_facts.proofs.Sound.{Sizes, Queue, Waits, Owned, Entries, Jobs_fine, Channels_fine, Fits, Tiled, Current, Sound}
 
 -- positions in use, entries with a block, and live numbers
@@ -37,9 +36,9 @@ module _ (p q : List ℕ) (t : Table) (m : members q t ≡ members p t) where
   unfolding used
   used_same k = rw m
 
-  pub ordinary_same : (k : ℕ) → ordinary q t k ≡ ordinary p t k
-  unfolding ordinary
-  ordinary_same k = rw (used_same k)
+  pub has_block_same : (k : ℕ) → has_block q t k ≡ has_block p t k
+  unfolding has_block
+  has_block_same k = rw (used_same k)
 
   pub live_same : ((k : ℕ) → k < positions t → number q t k ≡ number p t k) → (n : ℕ) → live q t n ≡ live p t n
   unfolding live
@@ -48,12 +47,6 @@ module _ (p q : List ℕ) (t : Table) (m : members q t ≡ members p t) where
       go : (b : Bool) → used p t (position n) ≡ b → b && eqb (number q t (position n)) n ≡ b && eqb (number p t (position n)) n
       go true u = rw (s (position n) (used_below p t (position n) u))
       go false u = refl
-
--- entries with a block: where the ends are the same too
-pub has_block_same : (p q : List ℕ) (t : Table) → members q t ≡ members p t → EndsSame p q → (k : ℕ) → has_block q t k ≡ has_block p t k
-unfolding has_block
-has_block_same p q Jobs m s k = ordinary_same p q Jobs m k
-has_block_same p q Channels m s k = leads_same p q s k
 
 -- a live number stays live
 abbrev pub Lives : List ℕ → List ℕ → Type 0
@@ -76,7 +69,7 @@ entries_same p q t s l z E =
     record {
       unused = z;
       place = λ k h. rw (s.numbers k (b k h)) (E.place k (u k h));
-      tagged = λ k c. let d = sym (ordinary_same p q t s.mask k) ∙ c in rw (s.numbers k (b k (ordinary_is_used q t k c))) (E.tagged k d);
+      tagged = λ k c. let d = sym (has_block_same p q t s.mask k) ∙ c in rw (s.numbers k (b k (has_block_used q t k c))) (E.tagged k d);
       once = λ j k g h e. E.once j k (u j g) (u k h) (rw (s.numbers j (b j g), s.numbers k (b k h)) at e);
       owned = λ k h. rw (s.owners k (b k h)) (owned_kept p q (may_be_unowned t) (owner p t k) l (E.owned k (u k h)));
       given = λ k h. rw (s.numbers k (b k h), s.last) (E.given k (u k h));
@@ -191,8 +184,8 @@ module _ (p q : List ℕ) (a : Area) (s : AreaSame p q a) (T : Tiled p a) where
 
 -- entries and blocks that are the same still match
 pub record MatchSame (p q : List ℕ) (t : Table) : Type 0 where
+  pub mask : members q t ≡ members p t
   pub owners : (k : ℕ) → k < positions t → owner q t k ≡ owner p t k
-  pub blocks_as_were : (k : ℕ) → has_block q t k ≡ has_block p t k
   pub bases : (k : ℕ) → k < positions t → base q t k ≡ base p t k
   pub walk : blocks q (area_of t) ≡ blocks p (area_of t)
   pub kinds : (i : ℕ) → In i (blocks p (area_of t)) → kind q i ≡ kind p i
@@ -202,13 +195,13 @@ pub matched_same : (p q : List ℕ) (t : Table) → MatchSame p q t → Matched 
 matched_same p q t s M =
     let old : (i : ℕ) → In i (blocks q (area_of t)) → In i (blocks p (area_of t)) = λ i m. subst (In i) s.walk m in
     record {
-      home = λ k l c. let h = M.home k l (sym (s.blocks_as_were k) ∙ c) in (h.0, (subst (In h.0) (sym s.walk) h.1.0, onto k h.0 l h.1.0 h.1.1));
+      home = λ k l c. let h = M.home k l (sym (has_block_same p q t s.mask k) ∙ c) in (h.0, (subst (In h.0) (sym s.walk) h.1.0, onto k h.0 l h.1.0 h.1.1));
       heir = λ i m e. let h = M.heir i (old i m) (sym (s.kinds i (old i m)) ∙ e) in (h.0, (h.1.0, onto h.0 i h.1.0 (old i m) h.1.1));
       apart = λ j k i x y m v w. M.apart j k i x y (old i m) (back j i x (old i m) v) (back k i y (old i m) w);
     }
   where
     onto : (k i : ℕ) → k < positions t → In i (blocks p (area_of t)) → Matches p t k i → Matches q t k i
-    onto k i l m o = record { has = s.blocks_as_were k ∙ o.has; sorts = s.kinds i m ∙ o.sorts; place = s.bases k l ∙ o.place; held = s.owners k l ∙ o.held ∙ sym (s.holders i m) }
+    onto k i l m o = record { has = has_block_same p q t s.mask k ∙ o.has; sorts = s.kinds i m ∙ o.sorts; place = s.bases k l ∙ o.place; held = s.owners k l ∙ o.held ∙ sym (s.holders i m) }
 
     back : (k i : ℕ) → k < positions t → In i (blocks p (area_of t)) → Matches q t k i → Matches p t k i
-    back k i l m o = record { has = sym (s.blocks_as_were k) ∙ o.has; sorts = sym (s.kinds i m) ∙ o.sorts; place = sym (s.bases k l) ∙ o.place; held = sym (s.owners k l) ∙ o.held ∙ s.holders i m }
+    back k i l m o = record { has = sym (has_block_same p q t s.mask k) ∙ o.has; sorts = sym (s.kinds i m) ∙ o.sorts; place = sym (s.bases k l) ∙ o.place; held = sym (s.owners k l) ∙ o.held ∙ s.holders i m }

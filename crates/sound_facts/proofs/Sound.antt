@@ -16,8 +16,7 @@ use Rattle.picture.specs.declared.Area.{Area}
 use Rattle.picture.specs.declared.Area.TheVariants.{Heap, Transient}
 use Rattle.blocks.specs.Header.{size, kind, queue_kind, job_kind, holder, start, queue_length, queue_oldest, queue_count, queue_zero, rounded}
 use Rattle.blocks.specs.Walk.{good, next, blocks}
-use Rattle.ends.specs.Ends.{output_end, input_end}
-use Rattle.sound_matching.specs.Match.{ordinary}
+use Rattle.sound_matching.specs.Match.{has_block}
 use Rattle.sound_matching.proofs.Matched.{Matched}
 use Rattle.sound_records.specs.Rules.{may_be_unowned}
 use Rattle.picture.specs.Layout.{greatest_priority, hold, without_end}
@@ -66,7 +65,7 @@ pub record Entries (p : List ℕ) (t : Table) : Type 0 where
   -- positioned
   pub place : (k : ℕ) → used p t k ≡ true → position (number p t k) ≡ k
   -- tag-within
-  pub tagged : (k : ℕ) → ordinary p t k ≡ true → (1 ≤ tag (number p t k)) × (tag (number p t k) ≤ greatest_tag)
+  pub tagged : (k : ℕ) → has_block p t k ≡ true → (1 ≤ tag (number p t k)) × (tag (number p t k) ≤ greatest_tag)
   -- tag-once
   pub once : (j k : ℕ) → used p t j ≡ true → used p t k ≡ true → tag (number p t j) ≡ tag (number p t k) → j ≡ k
   -- owner-live
@@ -100,8 +99,8 @@ pub record Jobs_fine (p : List ℕ) : Type 0 where
 -- the records of channels
 pub record Channels_fine (p : List ℕ) : Type 0 where
   pub entries : Entries p Channels
-  -- ends-known
-  pub known : (k : ℕ) → used p Channels k ≡ true → (ending p k ≡ output_end) ⊎ (ending p k ≡ input_end)
+  -- ends-in-one
+  pub one : (k : ℕ) → used p Channels k ≡ true → ending p k ≡ 1
 
 -- a kind belongs to an area
 abbrev pub Fits : Area → ℕ → Type 0

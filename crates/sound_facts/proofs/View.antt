@@ -15,7 +15,7 @@ use Rattle.words.specs.Each.{In}
 use Rattle.words.proofs.Tests.{both, either, failing, unless, lt_or_ge}
 use Rattle.words.proofs.Each.{every_at, every_by}
 use Rattle.picture.specs.Layout.{nobody, size_word, least_size, greatest_size, current_word, greatest_tag, heap_word, heap_base, positions, width, upto}
-use Rattle.picture.specs.Records.{field, number, owner, accumulated, timeout, waited_for, ending, used, ready}
+use Rattle.picture.specs.Records.{field, number, owner, accumulated, timeout, waited_for, used, ready}
 use Rattle.picture.specs.Numbers.{tag, position, live}
 use Rattle.picture.specs.declared.Table.{Table}
 use Rattle.picture.specs.declared.Table.TheVariants.{Jobs, Channels}
@@ -25,12 +25,9 @@ use Rattle.picture.proofs.Records.{used_below, all_zero_at, all_zero_by}
 use Rattle.blocks.specs.Header.{size, kind, kind_of, queue_kind, job_kind, free, holder}
 use Rattle.blocks.specs.Walk.{good, next, blocks}
 use Rattle.blocks.proofs.Walk.{good_is, is_good}
-use Rattle.ends.specs.Ends.{output_end, input_end}
-use Rattle.sound_matching.specs.Match.{area_of, ordinary, block_matched, entry_matched}
-use Rattle.sound_matching.proofs.Entries.{ordinary_is_used}
-use Rattle.sound_matching.proofs.Matched.{Matched}
-use Rattle.sound_matching.proofs.Ruled.{matched, matched_entries, matched_blocks, other_kind_matched}
-use Rattle.sound_records.specs.Rules.{may_be_unowned, zero_base, priority_within, accumulated_within, timeout_within, ends_known, blank, positioned, zero_exists, tag_within, tags_differ, tag_once, owner_live, owner_older, zero_unowned, tag_given, wait_allowed, idle_zero}
+use Rattle.sound_matching.specs.Match.{area_of, first, has_block, block_matched, entry_matched}
+use Rattle.sound_matching.proofs.Matched.{Matched, matched, matched_entries, matched_blocks}
+use Rattle.sound_records.specs.Rules.{may_be_unowned, zero_base, priority_within, accumulated_within, timeout_within, ends_in_one, blank, positioned, zero_exists, tag_within, tags_differ, tag_once, owner_live, owner_older, zero_unowned, tag_given, wait_allowed, idle_zero}
 use Rattle.picture.specs.Layout.{greatest_timeout, without_end}
 use Rattle.words.specs.Signed.{eq_z}
 use Rattle.words.proofs.Signed.{eq_z_true, eq_eq_z}
@@ -40,6 +37,11 @@ use Rattle.sound.specs.Rule.{Rule}
 use Rattle.sound.specs.Sound.{sound}
 use Rattle.sound.proofs.Holds.{Holds, sound_holds, sound_by}
 use Rattle.sound_facts.proofs.Sound.{Sizes, Queue, Waits, Owned, Entries, Jobs_fine, Channels_fine, Fits, Tiled, Sound, entries_of}
+
+-- an entry with a block is in use
+pub has_block_used : (p : List ℕ) (t : Table) (k : ℕ) → has_block p t k ≡ true → used p t k ≡ true
+unfolding has_block
+has_block_used p t k h = (both (leb (first t) k) (used p t k) h).1
 
 -- from a test to its fact, rule by rule
 module _ (p : List ℕ) where
@@ -81,7 +83,7 @@ module _ (p : List ℕ) where
       (λ (l : k ≤ j). ⊎_elim (λ (m : k < j). absurd (below t k j (r j (used_below p t j u)) m v u (sym e))) (λ (m : j ≤ k). omega arith) (lt_or_ge k j))
       (lt_or_ge j k)
 
-  tagged_by : (t : Table) (k : ℕ) → tag_within p t k ≡ true → ordinary p t k ≡ true → (1 ≤ tag (number p t k)) × (tag (number p t k) ≤ greatest_tag)
+  tagged_by : (t : Table) (k : ℕ) → tag_within p t k ≡ true → has_block p t k ≡ true → (1 ≤ tag (number p t k)) × (tag (number p t k) ≤ greatest_tag)
   unfolding tag_within
   tagged_by t k h c = let a = both _ _ (unless _ _ h c) in (leb-true _ _ a.0, leb-true _ _ a.1)
 
@@ -95,7 +97,7 @@ module _ (p : List ℕ) where
   entries_by t a b c d e f = record {
     unused = λ k g l m u. unused_by t k g (a k l) m u;
     place = λ k u. eqb-true _ _ (unless _ _ (b k (used_below p t k u)) u);
-    tagged = λ k h. tagged_by t k (c k (used_below p t k (ordinary_is_used p t k h))) h;
+    tagged = λ k h. tagged_by t k (c k (used_below p t k (has_block_used p t k h))) h;
     once = once_by t d;
     owned = λ k u. owned_by t k (e k (used_below p t k u)) u;
     given = λ k u. leb-true _ _ (unless _ _ (f k (used_below p t k u)) u);
@@ -156,7 +158,7 @@ module _ (p : List ℕ) where
 
 -- a sound picture has all these facts
 pub view : (p : List ℕ) → sound p ≡ true → Sound p
-unfolding current_ready zero_base priority_within accumulated_within timeout_within ends_known zero_exists owner_older zero_unowned idle_zero
+unfolding current_ready zero_base priority_within accumulated_within timeout_within ends_in_one zero_exists owner_older zero_unowned idle_zero
 view p s =
     let h = sound_holds p s in
     let zero = both _ _ (unless (eqb 0 0) _ (h Rule.zero_exists 0 (omega arith)) refl) in
@@ -178,7 +180,7 @@ view p s =
       };
       channels = record {
         entries = entries Channels;
-        known = λ k u. ⊎_elim (λ e. inl (eqb-true _ _ e)) (λ e. inr (eqb-true _ _ e)) (either _ _ (unless _ _ (h Rule.ends_known k (used_below p Channels k u)) u));
+        one = λ k u. eqb-true _ _ (unless _ _ (h Rule.ends_in_one k (used_below p Channels k u)) u);
       };
       tiled = λ a. tiled_by p a (h Rule.length_whole a) (h Rule.kind_known a) (h Rule.start_zero a) (h Rule.free_blank a) (h Rule.queue_room a) (h Rule.tiles a) (h Rule.untouched a) (h Rule.kind_fits a) (h Rule.holder_live a);
       matched = λ t. matched p t (h (Rule.block_matched t) (area_of t)) (h (Rule.entry_matched t));
@@ -223,7 +225,7 @@ module _ (p : List ℕ) where
 
     is_tagged : (k : ℕ) → k < positions t → tag_within p t k ≡ true
     unfolding tag_within
-    is_tagged k l = when (ordinary p t k) _ (λ c. let g = E.tagged k c in rw (le-leb _ _ g.0, le-leb _ _ g.1))
+    is_tagged k l = when (has_block p t k) _ (λ c. let g = E.tagged k c in rw (le-leb _ _ g.0, le-leb _ _ g.1))
 
     is_once : (k : ℕ) → k < positions t → tag_once p t k ≡ true
     unfolding tag_once tags_differ
@@ -280,9 +282,9 @@ module _ (p : List ℕ) where
     unfolding idle_zero
     is_idle k l = ⊎_elim (λ e. or_left (eqb (accumulated p k) 0) _ (eq-eqb _ _ e)) (λ e. or_right (eqb (accumulated p k) 0) _ e) (J.idle k l)
 
-  is_known : Channels_fine p → (k : ℕ) → k < positions Channels → ends_known p k ≡ true
-  unfolding ends_known
-  is_known C k l = when (used p Channels k) _ (λ u. ⊎_elim (λ e. or_left (eqb (ending p k) output_end) _ (eq-eqb _ _ e)) (λ e. or_right (eqb (ending p k) output_end) _ (eq-eqb _ _ e)) (C.known k u))
+  is_one : Channels_fine p → (k : ℕ) → k < positions Channels → ends_in_one p k ≡ true
+  unfolding ends_in_one
+  is_one C k l = when (used p Channels k) _ (λ u. eq-eqb _ _ (C.one k u))
 
   module _ (a : Area) (T : Tiled p a) (i : ℕ) (m : In i (blocks p a)) where
     is_length : length_whole p i ≡ true
@@ -343,8 +345,9 @@ module _ (p : List ℕ) where
   elsewhere Channels Transient i (inr e) = inl (λ q. omega arith)
 
   blocks_by : (t : Table) (a : Area) → Matched p t → Tiled p a → (i : ℕ) → In i (blocks p a) → block_matched p t i ≡ true
+  unfolding block_matched
   blocks_by t a M T i m = ⊎_elim
-      (λ (n : kind p i ≡ kind_of t → ⊥). other_kind_matched p t i n)
+      (λ (n : kind p i ≡ kind_of t → ⊥). rw (ne_eqb (kind p i) (kind_of t) n))
       (λ (e : a ≡ area_of t). matched_blocks p t M i (subst (λ (b : Area). In i (blocks p b)) e m))
       (elsewhere t a i (T.fits i m))
 
@@ -381,7 +384,7 @@ module _ (p : List ℕ) (S : Sound p) where
   by_name Rule.priority_within = is_urgent p S.jobs
   by_name Rule.accumulated_within = is_gained p S.jobs
   by_name Rule.timeout_within = is_frames p S.jobs
-  by_name Rule.ends_known = is_known p S.channels
+  by_name Rule.ends_in_one = is_one p S.channels
   by_name (Rule.blank t) = is_blank p t (entries_of p S t)
   by_name (Rule.positioned t) = is_positioned p t (entries_of p S t)
   by_name Rule.zero_exists = is_zero_exists p S.jobs

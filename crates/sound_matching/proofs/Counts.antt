@@ -17,7 +17,7 @@ use Rattle.picture.specs.Layout.{from, upto}
 use Rattle.blocks.specs.Header.{kind, holder, kind_of}
 use Rattle.blocks.specs.Walk.{blocks}
 use Rattle.blocks.proofs.Starts.{Rising, starts_rising}
-use Rattle.sound_matching.specs.Match.{area_of, has_block, pair, matches}
+use Rattle.sound_matching.specs.Match.{area_of, has_block, pair, block_matched, matches, entry_matched}
 
 total_le : (a b : ℕ → ℕ) (l : List ℕ) → ((i : ℕ) → In i l → a i ≤ b i) → total a l ≤ total b l
 total_le a b [] h = omega arith
@@ -34,13 +34,6 @@ total_squeeze a b (x ∷ l) h q i (inr m) =
     let r = total_le a b l (λ j o. h j (inr o)) in
     let y = h x (inl refl) in
     total_squeeze a b l (λ j o. h j (inr o)) (omega arith) i m
-
--- a block of the table's kind is that of exactly one entry, and an entry that has a block finds it in the table's area
-unfoldable pub block_once : List ℕ → Table → ℕ → Bool
-block_once p t i = not (eqb (kind p i) (kind_of t)) || eqb (count (λ (k : ℕ). pair p t k i) (positions t)) 1
-
-unfoldable pub entry_home : List ℕ → Table → ℕ → Bool
-entry_home p t k = not (has_block p t k) || any (matches p t k) (blocks p (area_of t))
 
 module _ (p : List ℕ) (t : Table) where
   -- what a block says that is the one of the entry at position k
@@ -101,8 +94,8 @@ module _ (p : List ℕ) (t : Table) where
   abbrev heirs_of : ℕ → ℕ
   heirs_of i = sum (λ (k : ℕ). one (matches p t k i)) (positions t)
 
-  blocks_by : (i : ℕ) → one (eqb (kind p i) (kind_of t)) ≡ heirs_of i → block_once p t i ≡ true
-  unfolding block_once matches
+  blocks_by : (i : ℕ) → one (eqb (kind p i) (kind_of t)) ≡ heirs_of i → block_matched p t i ≡ true
+  unfolding block_matched matches
   blocks_by i h = go (eqb (kind p i) (kind_of t)) h
     where
       go : (b : Bool) → one b ≡ sum (λ (k : ℕ). one (b && pair p t k i)) (positions t) → not b || eqb (count (λ (k : ℕ). pair p t k i) (positions t)) 1 ≡ true
@@ -112,12 +105,12 @@ module _ (p : List ℕ) (t : Table) where
   -- each block of the kind has an heir, and there are as many blocks as entries: it has exactly one
   pub heirs_blocks : ((i : ℕ) → In i (blocks p (area_of t)) → kind p i ≡ kind_of t → (k : ℕ) × ((k < positions t) × Matches k i))
       → total (λ (i : ℕ). one (eqb (kind p i) (kind_of t))) (blocks p (area_of t)) ≡ count (has_block p t) (positions t)
-      → all (block_once p t) (blocks p (area_of t)) ≡ true
+      → all (block_matched p t) (blocks p (area_of t)) ≡ true
   heirs_blocks heir h =
       let many = total_le (λ (i : ℕ). one (eqb (kind p i) (kind_of t))) heirs_of (blocks p (area_of t)) at_least in
       let turned = swap (λ (i k : ℕ). one (matches p t k i)) (positions t) (blocks p (area_of t)) in
       let few = sum_le (λ (k : ℕ). hits k (blocks p (area_of t))) (λ (k : ℕ). one (has_block p t k)) (positions t) (λ k _. at_most k) in
-      all_by (block_once p t) (blocks p (area_of t)) λ i m. blocks_by i (total_squeeze (λ (i : ℕ). one (eqb (kind p i) (kind_of t))) heirs_of (blocks p (area_of t)) at_least (omega arith) i m)
+      all_by (block_matched p t) (blocks p (area_of t)) λ i m. blocks_by i (total_squeeze (λ (i : ℕ). one (eqb (kind p i) (kind_of t))) heirs_of (blocks p (area_of t)) at_least (omega arith) i m)
     where
       at_least : (i : ℕ) → In i (blocks p (area_of t)) → one (eqb (kind p i) (kind_of t)) ≤ heirs_of i
       at_least i m = go (eqb (kind p i) (kind_of t)) refl
@@ -127,33 +120,33 @@ module _ (p : List ℕ) (t : Table) where
           go false q = omega arith
 
   -- a block of the kind is counted once, by the one entry whose it is
-  counted : (i : ℕ) → block_once p t i ≡ true → one (eqb (kind p i) (kind_of t)) ≡ heirs_of i
-  unfolding block_once matches
+  counted : (i : ℕ) → block_matched p t i ≡ true → one (eqb (kind p i) (kind_of t)) ≡ heirs_of i
+  unfolding block_matched matches
   counted i h = go (eqb (kind p i) (kind_of t)) h
     where
       go : (b : Bool) → not b || eqb (count (λ (k : ℕ). pair p t k i) (positions t)) 1 ≡ true → one b ≡ sum (λ (k : ℕ). one (b && pair p t k i)) (positions t)
       go true q = sym (eqb-true _ _ q)
       go false q = sym (sum_zero (positions t))
 
-  module _ (whole : all (block_once p t) (blocks p (area_of t)) ≡ true) where
+  module _ (whole : all (block_matched p t) (blocks p (area_of t)) ≡ true) where
     by_positions : total (λ (i : ℕ). one (eqb (kind p i) (kind_of t))) (blocks p (area_of t)) ≡ sum (λ (k : ℕ). hits k (blocks p (area_of t))) (positions t)
     by_positions =
-        total_same _ _ (blocks p (area_of t)) (λ i m. counted i (all_at (block_once p t) (blocks p (area_of t)) whole i m))
+        total_same _ _ (blocks p (area_of t)) (λ i m. counted i (all_at (block_matched p t) (blocks p (area_of t)) whole i m))
         ∙ swap (λ (i k : ℕ). one (matches p t k i)) (positions t) (blocks p (area_of t))
 
     -- as many blocks as entries: nobody is without
-    pub counts_entries : total (λ (i : ℕ). one (eqb (kind p i) (kind_of t))) (blocks p (area_of t)) ≡ count (has_block p t) (positions t) → every (entry_home p t) (positions t) ≡ true
-    unfolding entry_home
-    counts_entries h = every_by (entry_home p t) (positions t) λ k l. go k (has_block p t k) refl (sum_squeeze (λ (k : ℕ). hits k (blocks p (area_of t))) (λ (k : ℕ). one (has_block p t k)) (positions t) (λ k _. at_most k) (sym by_positions ∙ h) k l)
+    pub counts_entries : total (λ (i : ℕ). one (eqb (kind p i) (kind_of t))) (blocks p (area_of t)) ≡ count (has_block p t) (positions t) → every (entry_matched p t) (positions t) ≡ true
+    unfolding entry_matched
+    counts_entries h = every_by (entry_matched p t) (positions t) λ k l. go k (has_block p t k) refl (sum_squeeze (λ (k : ℕ). hits k (blocks p (area_of t))) (λ (k : ℕ). one (has_block p t k)) (positions t) (λ k _. at_most k) (sym by_positions ∙ h) k l)
       where
         go : (k : ℕ) (c : Bool) → has_block p t k ≡ c → hits k (blocks p (area_of t)) ≡ one (has_block p t k) → not (has_block p t k) || any (matches p t k) (blocks p (area_of t)) ≡ true
         go k true q z = rw q ((hits_any k (blocks p (area_of t))).0 (let y : one (has_block p t k) ≡ 1 = ap one q in omega arith))
         go k false q z = rw q
 
     -- nobody is without: as many blocks as entries
-    pub entries_counts : every (entry_home p t) (positions t) ≡ true → total (λ (i : ℕ). one (eqb (kind p i) (kind_of t))) (blocks p (area_of t)) ≡ count (has_block p t) (positions t)
-    unfolding entry_home
-    entries_counts h = by_positions ∙ sum_same _ _ (positions t) λ k l. go k (has_block p t k) refl (every_at (entry_home p t) (positions t) h k l)
+    pub entries_counts : every (entry_matched p t) (positions t) ≡ true → total (λ (i : ℕ). one (eqb (kind p i) (kind_of t))) (blocks p (area_of t)) ≡ count (has_block p t) (positions t)
+    unfolding entry_matched
+    entries_counts h = by_positions ∙ sum_same _ _ (positions t) λ k l. go k (has_block p t k) refl (every_at (entry_matched p t) (positions t) h k l)
       where
         go : (k : ℕ) (c : Bool) → has_block p t k ≡ c → not (has_block p t k) || any (matches p t k) (blocks p (area_of t)) ≡ true → hits k (blocks p (area_of t)) ≡ one (has_block p t k)
         go k true q z =

@@ -4,7 +4,7 @@ ghost use Rattle.words.specs.Each.{one};
 ghost use Rattle.picture.specs.Layout.{positions, heap_base};
 ghost use Rattle.blocks.specs.Header.{holder_field};
 ghost use Rattle.sound_matching.specs.Match.{first};
-ghost use Rattle.sound_matching.specs.Agreed.{heads, told_alike, Noted, agrees, agreed, agreed_as_noted};
+ghost use Rattle.sound_matching.specs.Agreed.{agrees, agreed, agreed_as_noted};
 
 use picture::Table;
 use picture_tables::field_of;
@@ -36,37 +36,15 @@ pub fn one_of(b: bool) -> usize
     0
 }
 
-// The record of position k is the one of those with its base that has the block.
-pub fn is_heading(p: &[u32], t: Table, k: usize) -> bool
-    requires { (heap_base ≤ length p.now) × (k < positions t) }
-    ensures { result ≡ heads p.now t k }
-{
-    match t {
-        Table::Jobs => true,
-        Table::Channels => ends::is_foremost(p, k),
-    }
-}
-
-// The block at i and the record of position k have the same base and owner.
-pub fn is_told_alike(p: &[u32], t: Table, k: usize, i: usize) -> bool
+// The block at i and the record of position k agree: base and owner.
+pub fn is_agreeing(p: &[u32], t: Table, k: usize, i: usize) -> bool
     requires { (heap_base ≤ length p.now) × ((k < positions t) × ((i + holder_field < length p.now) × (i < 8589934592))) }
-    ensures { result ≡ told_alike p.now t k i }
+    ensures { result ≡ agrees p.now t k i }
 {
     if field_of(p, t, k, picture::BASE) as usize != 4 * i {
         return false;
     }
     field_of(p, t, k, picture::OWNER) == picture::word_at(p, i + blocks::HOLDER)
-}
-
-// The block at i and the record of position k agree: base and owner, and the record heads those with that base.
-pub fn is_agreeing(p: &[u32], t: Table, k: usize, i: usize) -> bool
-    requires { (heap_base ≤ length p.now) × ((k < positions t) × ((i + holder_field < length p.now) × (i < 8589934592))) }
-    ensures { result ≡ agrees p.now t k i }
-{
-    if !is_told_alike(p, t, k, i) {
-        return false;
-    }
-    is_heading(p, t, k)
 }
 
 // The block at i agrees with some record of the table, which is looked for among all.
@@ -86,20 +64,20 @@ pub fn is_agreed(p: &[u32], t: Table, i: usize) -> bool
 }
 
 // A noted position as an index.
-pub fn wide(position: u8) -> usize
+fn wide(position: u8) -> usize
     ensures { result ≡ position }
 {
     position as usize
 }
 
-// The block at i agrees with the record at the position noted for its place. What is noted has a block, and so heads those with its base.
+// The block at i agrees with the record at the position noted for its place.
 pub fn is_agreed_as_noted(p: &[u32], t: Table, i: usize, noted: &[u8; 64]) -> bool
-    requires { (heap_base ≤ length p.now) × ((i + holder_field < length p.now) × ((i < 8589934592) × Noted p.now t noted.now)) }
+    requires { (heap_base ≤ length p.now) × ((i + holder_field < length p.now) × (i < 8589934592)) }
     ensures { result ≡ agreed_as_noted p.now t i noted.now }
 {
     let k = wide(noted[i / 4 % 64]);
     if picture::positions_of(t) <= k {
         return false;
     }
-    is_told_alike(p, t, k, i)
+    is_agreeing(p, t, k, i)
 }

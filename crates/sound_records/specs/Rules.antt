@@ -9,8 +9,7 @@ use Rattle.picture.specs.Records.{all_zero, number, owner, base, priority, accum
 use Rattle.picture.specs.Numbers.{tag, position, live}
 use Rattle.picture.specs.declared.Table.{Table}
 use Rattle.picture.specs.declared.Table.TheVariants.{Jobs, Channels}
-use Rattle.ends.specs.Ends.{output_end, input_end}
-use Rattle.sound_matching.specs.Match.{ordinary}
+use Rattle.sound_matching.specs.Match.{has_block}
 
 -- rule 20: "block base (0 for job 0)"
 unfoldable pub zero_base : List ℕ → ℕ → Bool
@@ -28,9 +27,9 @@ accumulated_within p k = leb (accumulated p k) hold
 unfoldable pub timeout_within : List ℕ → ℕ → Bool
 timeout_within p k = le_z without_end (timeout p k) && le_z (timeout p k) (pos greatest_timeout)
 
--- rule 24: "last longword 1 for output, 2 for input"
-unfoldable pub ends_known : List ℕ → ℕ → Bool
-ends_known p k = not (used p Channels k) || (eqb (ending p k) output_end || eqb (ending p k) input_end)
+-- rule 24: "Channel record: number, owner, block base, 1"
+unfoldable pub ends_in_one : List ℕ → ℕ → Bool
+ends_in_one p k = not (used p Channels k) || eqb (ending p k) 1
 
 -- rules 25 and 26: "Unused records are all zero"
 unfoldable pub blank : List ℕ → Table → ℕ → Bool
@@ -46,7 +45,7 @@ zero_exists p k = not (eqb k 0) || (used p Jobs k && eqb (number p Jobs k) 0)
 
 -- rules 30 and 31: "Other tags run from 1 to 32,767"
 unfoldable pub tag_within : List ℕ → Table → ℕ → Bool
-tag_within p t k = not (ordinary p t k) || (leb 1 (tag (number p t k)) && leb (tag (number p t k)) greatest_tag)
+tag_within p t k = not (has_block p t k) || (leb 1 (tag (number p t k)) && leb (tag (number p t k)) greatest_tag)
 
 -- rules 32 and 33: "none is used twice": no lower position in use has the same tag
 unfoldable pub tags_differ : List ℕ → Table → ℕ → ℕ → Bool

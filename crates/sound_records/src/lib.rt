@@ -5,7 +5,7 @@ ghost use Rattle.picture.specs.Layout.{positions, heap_base};
 ghost use Rattle.picture.specs.Records.{all_zero, number, used};
 ghost use Rattle.picture.specs.Numbers.{tag};
 ghost use Rattle.picture.specs.declared.Table.TheVariants.{Channels};
-ghost use Rattle.sound_records.specs.Rules.{positioned, ends_known, tag_within, tags_differ};
+ghost use Rattle.sound_records.specs.Rules.{positioned, ends_in_one, tag_within, tags_differ};
 ghost use Rattle.sound_records.specs.Rules.{may_be_unowned, owner_live, tag_given};
 
 use picture::{NOBODY, Table};
@@ -19,13 +19,12 @@ pub fn tag_at(p: &[u32], t: Table, k: usize) -> u32
     picture::tag_of(field_of(p, t, k, picture::NUMBER))
 }
 
-// The record of a channel in use ends in 1 or 2.
-pub fn ends_known(p: &[u32], k: usize) -> bool
+// The record of a channel in use ends in 1.
+pub fn ends_in_one(p: &[u32], k: usize) -> bool
     requires { (heap_base ≤ length p.now) × ((k < positions Channels) × (used p.now Channels k ≡ true)) }
-    ensures { result ≡ ends_known p.now k }
+    ensures { result ≡ ends_in_one p.now k }
 {
-    let ending = field_of(p, Table::Channels, k, picture::ENDING);
-    (ending == ends::OUTPUT) | (ending == ends::INPUT)
+    field_of(p, Table::Channels, k, picture::ENDING) == 1
 }
 
 // Every field of a channel's record is zero.

@@ -3,7 +3,6 @@ ghost use Rattle.std.specs.Prelude.{◌≡◌, ◌+◌, ◌<◌, ◌≤◌, leng
 ghost use Rattle.picture.specs.Layout.{heap_base};
 ghost use Rattle.picture.specs.declared.Table.TheVariants.{Jobs, Channels};
 ghost use Rattle.blocks.specs.Header.{start_field};
-ghost use Rattle.sound_matching.specs.Agreed.{Noted};
 ghost use Rattle.sound_walks.specs.Walks.{free_fine, held_fine, block_fine, blocks_walked};
 
 use picture::{Table, word_at};
@@ -22,7 +21,7 @@ pub fn is_free_fine(p: &[u32], e: usize, i: usize) -> bool
 
 // The rules of a block of the transient area that is not free.
 pub fn is_transient_fine(p: &[u32], i: usize, noted: &[u8; 64]) -> bool
-    requires { (heap_base ≤ length p.now) × ((i + start_field < length p.now) × ((i < 8589934592) × Noted p.now Jobs noted.now)) }
+    requires { (heap_base ≤ length p.now) × ((i + start_field < length p.now) × (i < 8589934592)) }
     ensures { result ≡ held_fine p.now Jobs i }
 {
     if word_at(p, i + blocks::KIND) != blocks::JOB {
@@ -36,7 +35,7 @@ pub fn is_transient_fine(p: &[u32], i: usize, noted: &[u8; 64]) -> bool
 
 // The rules of a block of the heap that is not free.
 pub fn is_heap_fine(p: &[u32], i: usize, noted: &[u8; 64]) -> bool
-    requires { (heap_base ≤ length p.now) × ((i + start_field < length p.now) × ((i < 8589934592) × Noted p.now Channels noted.now)) }
+    requires { (heap_base ≤ length p.now) × ((i + start_field < length p.now) × (i < 8589934592)) }
     ensures { result ≡ held_fine p.now Channels i }
 {
     if word_at(p, i + blocks::START) != 0 {
@@ -60,7 +59,7 @@ pub fn is_heap_fine(p: &[u32], i: usize, noted: &[u8; 64]) -> bool
 
 // The rules of a block of the table's area that is not free.
 pub fn is_held_fine(p: &[u32], t: Table, i: usize, noted: &[u8; 64]) -> bool
-    requires { (heap_base ≤ length p.now) × ((i + start_field < length p.now) × ((i < 8589934592) × Noted p.now t noted.now)) }
+    requires { (heap_base ≤ length p.now) × ((i + start_field < length p.now) × (i < 8589934592)) }
     ensures { result ≡ held_fine p.now t i }
 {
     match t {
@@ -71,7 +70,7 @@ pub fn is_held_fine(p: &[u32], t: Table, i: usize, noted: &[u8; 64]) -> bool
 
 // The rules of the block at i of the table's area, which ends at e.
 pub fn is_block_fine(p: &[u32], t: Table, e: usize, i: usize, noted: &[u8; 64]) -> bool
-    requires { (heap_base ≤ length p.now) × ((i < e) × ((e ≤ length p.now) × ((e < 8589934592) × Noted p.now t noted.now))) }
+    requires { (heap_base ≤ length p.now) × ((i < e) × ((e ≤ length p.now) × (e < 8589934592))) }
     ensures { result ≡ block_fine p.now t e i }
 {
     if !sound_areas::length_whole(p, i) {
@@ -88,7 +87,7 @@ pub fn is_block_fine(p: &[u32], t: Table, e: usize, i: usize, noted: &[u8; 64]) 
 
 // A walk over the blocks from b to e of the table's area.
 pub fn walk_blocks(p: &[u32], t: Table, b: usize, e: usize, noted: &[u8; 64]) -> Walked
-    requires { (heap_base ≤ length p.now) × ((e ≤ length p.now) × ((e < 8589934592) × Noted p.now t noted.now)) }
+    requires { (heap_base ≤ length p.now) × ((e ≤ length p.now) × (e < 8589934592)) }
     ensures { result ≡ blocks_walked p.now t b e }
 {
     let kind = blocks::kind_of(t);

@@ -9,8 +9,7 @@ use Rattle.creating.specs.Create.{create}
 use Rattle.ending.specs.Remove.{remove, force_remove}
 use Rattle.memory.specs.Memory.{longest_room, take, give_back}
 use Rattle.opening.specs.Calls.{open_channel}
-use Rattle.closing.specs.Calls.{close_channel}
-use Rattle.channels.specs.Calls.{pending, fetch, send}
+use Rattle.channels.specs.Calls.{close_channel, pending, fetch, send}
 
 -- what stands behind a number in a list, or another where the number isn't there
 abbrev pub among : {A : Type 0} → ℕ → List (ℕ × A) → A → A

@@ -34,7 +34,7 @@ pub fn trap_two(p: &mut [u32], code: u32, d: &mut [u32], name: &[u8]) -> i32
 {
     match code {
         0x1 => opening::open_channel(p, d, name),
-        0x2 => closing::close_channel(p, d),
+        0x2 => channels::close_channel(p, d),
         _ => picture::BAD_PARAMETER,
     }
 }

@@ -1,4 +1,4 @@
--- A field of every job record set, as pick and tick do (rules 101 and 104).
+-- A field of every job record set, as pick and tick do (rules 100 and 103).
 use Rattle.std.specs.Prelude.{ℕ, zero, suc, List}
 use Rattle.picture.specs.Records.{with_field}
 use Rattle.picture.specs.declared.Table.TheVariants.{Jobs}

@@ -1,4 +1,4 @@
--- Document 01, "Pick" (rules 100 to 103). A job at an unused position is never ready in a sound picture, where unused records are all zero.
+-- Document 01, "Pick" (rules 99 to 102). A job at an unused position is never ready in a sound picture, where unused records are all zero.
 use Rattle.std.specs.Prelude.{ℕ, zero, suc, ◌+◌, min, cond, ◌&&◌, ◌||◌, List, ltb, eqb, ℤ}
 use Rattle.words.specs.Words.{put}
 use Rattle.words.specs.Signed.{signed}
@@ -14,7 +14,7 @@ use Rattle.turns.specs.declared.Picked.{Picked}
 unfoldable pub preferred : List ℕ → ℕ → ℕ → ℕ
 preferred p m k = cond (ready p k && (eqb m (positions Jobs) || ltb (accumulated p m) (accumulated p k))) k m
 
--- rule 100: "among ready jobs the greatest accumulated, lowest position on a tie": among the positions below n
+-- rule 99: "among ready jobs the greatest accumulated, lowest position on a tie": among the positions below n
 unfoldable pub chosen_below : List ℕ → ℕ → ℕ
 chosen_below p zero = positions Jobs
 chosen_below p (suc n) = preferred p (chosen_below p n) n
@@ -24,19 +24,19 @@ chosen_below p (suc n) = preferred p (chosen_below p n) n
 unfoldable pub chosen_job : List ℕ → ℕ
 chosen_job p = chosen_below p (positions Jobs)
 
--- rule 101: "accumulated 0; every other ready job gains its priority, held at 8,191"
+-- rule 100: "accumulated 0; every other ready job gains its priority, held at 8,191"
 unfoldable pub accumulated_after : List ℕ → ℕ → ℕ → ℕ
 accumulated_after p m k = cond (eqb k m) 0 (cond (ready p k) (min hold (accumulated p k + priority p k)) (accumulated p k))
 
--- rule 101: "It becomes current", the others gain, and its key to deliver is cleared
+-- rule 100: "It becomes current", the others gain, and its key to deliver is cleared
 unfoldable pub turn_given : List ℕ → ℕ → List ℕ
 turn_given p m = put (with_key (set_each p accumulated_field (accumulated_after p m) (positions Jobs)) m 0) current_word (number p Jobs m)
 
--- rules 101 and 103: the picture after the pick; "Nobody ready: nobody current, nothing else moves"
+-- rules 100 and 102: the picture after the pick; "Nobody ready: nobody current, nothing else moves"
 unfoldable pub picked : List ℕ → List ℕ
 picked p = cond (eqb (chosen_job p) (positions Jobs)) (put p current_word nobody) (turn_given p (chosen_job p))
 
--- rules 102 and 103: "Answer: number and its key to deliver"; nobody ready: "$FFFFFFFF and key 0"
+-- rules 101 and 102: "Answer: number and its key to deliver"; nobody ready: "$FFFFFFFF and key 0"
 unfoldable pub picked_number : List ℕ → ℕ
 picked_number p = cond (eqb (chosen_job p) (positions Jobs)) nobody (number p Jobs (chosen_job p))
 

@@ -1,4 +1,4 @@
--- Document 01 (rule 104): "Tick: each positive timeout falls by 1", of every job, inactive ones too.
+-- Document 01 (rule 103): "Tick: each positive timeout falls by 1", of every job, inactive ones too.
 use Rattle.std.specs.Prelude.{ℕ, zero, suc, List, ℤ, pos, negsuc}
 use Rattle.words.specs.Signed.{bits}
 use Rattle.picture.specs.Layout.{positions}

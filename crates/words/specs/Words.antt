@@ -13,7 +13,7 @@ put p i v = set p i v
 abbrev pub low_word : ℕ → ℕ
 low_word register = register % 65536
 
--- rule 98: the picture with n longwords from i on cleared
+-- rule 97: the picture with n longwords from i on cleared
 unfoldable pub clear : ℕ → List ℕ → ℕ → List ℕ
 clear zero p i = p
 clear (suc n) p i = clear n (put p i 0) (i + 1)

@@ -45,7 +45,6 @@ pub const OUT_OF_RANGE: i32 = -4;
 pub const BUFFER_OVERFLOW: i32 = -5;
 pub const CHANNEL_NOT_OPEN: i32 = -6;
 pub const NOT_FOUND: i32 = -7;
-pub const END_OF_FILE: i32 = -10;
 pub const BAD_NAME: i32 = -12;
 pub const BAD_PARAMETER: i32 = -15;
 pub const NOT_SOUND: i32 = -16;
@@ -91,10 +90,6 @@ pub const TIMEOUT: usize = 5;
 pub const WAIT: usize = 6;
 pub const KEY: usize = 7;
 pub const ENDING: usize = 3;
-/// What `ENDING` holds in an output's record.
-pub const OUTPUT: u32 = 1;
-/// What `ENDING` holds in an input's record.
-pub const INPUT: u32 = 2;
 pub const GREATEST_PRIORITY: u8 = 127;
 pub const HOLD: u32 = 8_191;
 pub const GREATEST_TIMEOUT: i16 = 32_767;

@@ -25,15 +25,13 @@ impl Key {
     pub const OUT_OF_RANGE: Key = Key(constants::OUT_OF_RANGE);
     /// A table has fewer lines than the tree that is to be reported has jobs.
     pub const BUFFER_OVERFLOW: Key = Key(constants::BUFFER_OVERFLOW);
-    /// No such channel; no such output to join; channel positions or tags are used up.
+    /// No such channel; channel positions or tags are used up.
     pub const CHANNEL_NOT_OPEN: Key = Key(constants::CHANNEL_NOT_OPEN);
     /// The name isn't PIPE; there is no such error text.
     pub const NOT_FOUND: Key = Key(constants::NOT_FOUND);
-    /// The queue is empty, and its output is gone.
-    pub const END_OF_FILE: Key = Key(constants::END_OF_FILE);
     /// `PIPE_` isn't followed by 1 to 5 digits worth 1 to 32,766.
     pub const BAD_NAME: Key = Key(constants::BAD_NAME);
-    /// Any other bad parameter; the wrong end of a queue; there is no such call.
+    /// Any other bad parameter; there is no such call.
     pub const BAD_PARAMETER: Key = Key(constants::BAD_PARAMETER);
     /// The picture isn't sound.
     pub const NOT_SOUND: Key = Key(constants::NOT_SOUND);
@@ -77,7 +75,6 @@ impl fmt::Debug for Key {
             Key::BUFFER_OVERFLOW => "BUFFER_OVERFLOW",
             Key::CHANNEL_NOT_OPEN => "CHANNEL_NOT_OPEN",
             Key::NOT_FOUND => "NOT_FOUND",
-            Key::END_OF_FILE => "END_OF_FILE",
             Key::BAD_NAME => "BAD_NAME",
             Key::BAD_PARAMETER => "BAD_PARAMETER",
             Key::NOT_SOUND => "NOT_SOUND",

@@ -1,5 +1,5 @@
-//! The manager of a hub, linked from `libkrowjyvan.a`: programs ("jobs"), their memory, the queues between them, whose
-//! ends are "channels", and whose turn it is, behind the calls of the Sinclair QL's operating system.
+//! The manager of a hub, linked from `libkrowjyvan.a`: programs ("jobs"), their memory, the queues between them
+//! ("channels") and whose turn it is, behind the calls of the Sinclair QL's operating system.
 //!
 //! A [`Picture`] owns all that the manager knows. Its methods are the calls, under the names of the QL Technical Guide;
 //! a refusal is a [`Key`], and changes nothing. [`Picture::report_tree`] tells of every job of a tree at once.
@@ -14,14 +14,11 @@
 //!
 //! let mut hub = Picture::fresh(1_024, 256)?;
 //! let desk = hub.mt_cjob(Some(JobNumber::ZERO), 60, 40, 0)?.job;
-//! let output = hub.io_open(desk, b"PIPE_8")?;
-//! let input = hub.io_open_input(JobNumber::ZERO, output)?;
-//! hub.io_sbyte(output, 8)?;
+//! let queue = hub.io_open(desk, b"PIPE_8")?;
+//! hub.io_sbyte(queue, 8)?;
 //! hub.mt_frjob(desk, 0)?;
 //! assert_eq!(hub.pick()?.job, Some(JobNumber::ZERO));
-//! assert_eq!(hub.io_sbyte(output, 9), Err(Key::CHANNEL_NOT_OPEN));
-//! assert_eq!(hub.io_fbyte(input), Ok(8));
-//! assert_eq!(hub.io_fbyte(input), Err(Key::END_OF_FILE));
+//! assert_eq!(hub.io_fbyte(queue), Err(Key::CHANNEL_NOT_OPEN));
 //! # Ok::<(), Key>(())
 //! ```
 //!
@@ -32,7 +29,6 @@
 //! | suspended | of a job: its timeout isn't 0; a job that waits for another is suspended without end |
 //! | ready | active and not suspended: a pick chooses among the ready jobs |
 //! | tree | of a job: the job, the jobs that it owns, those that they own, and so on |
-//! | end | of a queue: a channel; its output is sent to, and an input, of which it may have many, is fetched from |
 //! | sound | of a picture: it holds together; a fresh one does, and every function leaves a sound one sound |
 #![warn(missing_docs)]
 

@@ -264,8 +264,8 @@ impl Picture {
         })
     }
 
-    /// MT.RJOB: removes a job's tree with all memory and channels that it owns, and the queues that have no end left; who
-    /// waits for one of it gets the key at its next turn. Done, it leaves nobody current.
+    /// MT.RJOB: removes a job's tree with all memory and channels that it owns; who waits for one of it gets the key at
+    /// its next turn. Done, it leaves nobody current.
     ///
     /// [`Key::NOT_COMPLETE`] where one of the tree is active; [`Key::BAD_PARAMETER`] for job 0; [`Key::INVALID_JOB`].
     pub fn mt_rjob(&mut self, job: JobNumber, key: i32) -> Result<(), Key> {
@@ -331,57 +331,46 @@ impl Picture {
         Call::new(MT_RECHP).with(A0, first_byte).on(self, TRAP_1, b"").map(drop)
     }
 
-    /// IO.OPEN: opens the output of a new queue, for a job with which the output goes. Its name is `PIPE_n`, capitals or
-    /// not, and n, 1 to 32,766, is how many bytes the queue holds.
+    /// IO.OPEN: opens a queue for a job with which it goes. Its name is `PIPE_n`, capitals or not, and n, 1 to 32,766, is
+    /// how many bytes it holds.
     ///
-    /// [`Key::INVALID_JOB`]; for the name [`Key::NOT_FOUND`] and [`Key::BAD_NAME`]; [`Key::CHANNEL_NOT_OPEN`] where positions
-    /// or tags are used up, and for PIPE alone, which [`Picture::io_open_input`] opens; [`Key::OUT_OF_MEMORY`].
+    /// [`Key::INVALID_JOB`]; for the name [`Key::NOT_FOUND`], [`Key::BAD_NAME`], and [`Key::BAD_PARAMETER`] for PIPE alone;
+    /// [`Key::CHANNEL_NOT_OPEN`] where positions or tags are used up; [`Key::OUT_OF_MEMORY`].
     pub fn io_open(&mut self, owner: JobNumber, name: &[u8]) -> Result<ChannelNumber, Key> {
         let after = Call::new(IO_OPEN).with(D1, owner.0).on(self, TRAP_2, name)?;
         Ok(ChannelNumber(after[A0]))
     }
 
-    /// IO.OPEN with the name PIPE: opens an input of the output's queue, for a job with which the input goes. It takes no
-    /// memory, and a queue may have many.
-    ///
-    /// [`Key::INVALID_JOB`]; [`Key::CHANNEL_NOT_OPEN`] where that is no live output, or positions or tags are used up.
-    pub fn io_open_input(&mut self, owner: JobNumber, output: ChannelNumber) -> Result<ChannelNumber, Key> {
-        let after = Call::new(IO_OPEN).with(D1, owner.0).with(D3, output.0).on(self, TRAP_2, b"PIPE")?;
-        Ok(ChannelNumber(after[A0]))
-    }
-
-    /// IO.CLOSE: closes a channel. A queue goes with its last end, and its bytes with it.
+    /// IO.CLOSE: closes a channel.
     ///
     /// [`Key::CHANNEL_NOT_OPEN`].
     pub fn io_close(&mut self, channel: ChannelNumber) -> Result<(), Key> {
         Call::new(IO_CLOSE).with(A0, channel.0).on(self, TRAP_2, b"").map(drop)
     }
 
-    /// IO.PEND: whether a byte waits in the input's queue.
+    /// IO.PEND: whether a byte waits in the channel's queue.
     ///
-    /// [`Key::CHANNEL_NOT_OPEN`]; [`Key::BAD_PARAMETER`] for an output; [`Key::END_OF_FILE`] where the queue is empty and its
-    /// output is gone, so that no byte will ever come.
-    pub fn io_pend(&mut self, input: ChannelNumber) -> Result<bool, Key> {
-        match Call::new(IO_PEND).with(A0, input.0).on(self, TRAP_3, b"") {
+    /// [`Key::CHANNEL_NOT_OPEN`].
+    pub fn io_pend(&mut self, channel: ChannelNumber) -> Result<bool, Key> {
+        match Call::new(IO_PEND).with(A0, channel.0).on(self, TRAP_3, b"") {
             Ok(_) => Ok(true),
             Err(Key::NOT_COMPLETE) => Ok(false),
             Err(key) => Err(key),
         }
     }
 
-    /// IO.FBYTE: fetches the oldest byte of the input's queue.
+    /// IO.FBYTE: fetches the oldest byte.
     ///
-    /// [`Key::CHANNEL_NOT_OPEN`]; [`Key::BAD_PARAMETER`] for an output; where the queue is empty [`Key::NOT_COMPLETE`], or
-    /// [`Key::END_OF_FILE`] if its output is gone.
-    pub fn io_fbyte(&mut self, input: ChannelNumber) -> Result<u8, Key> {
-        let after = Call::new(IO_FBYTE).with(A0, input.0).on(self, TRAP_3, b"")?;
+    /// [`Key::CHANNEL_NOT_OPEN`]; [`Key::NOT_COMPLETE`] where the queue is empty.
+    pub fn io_fbyte(&mut self, channel: ChannelNumber) -> Result<u8, Key> {
+        let after = Call::new(IO_FBYTE).with(A0, channel.0).on(self, TRAP_3, b"")?;
         Ok(after[D1] as u8)
     }
 
-    /// IO.SBYTE: sends a byte to the output's queue.
+    /// IO.SBYTE: sends a byte.
     ///
-    /// [`Key::CHANNEL_NOT_OPEN`]; [`Key::BAD_PARAMETER`] for an input; [`Key::NOT_COMPLETE`] where the queue is full.
-    pub fn io_sbyte(&mut self, output: ChannelNumber, byte: u8) -> Result<(), Key> {
-        Call::new(IO_SBYTE).with(A0, output.0).with(D1, u32::from(byte)).on(self, TRAP_3, b"").map(drop)
+    /// [`Key::CHANNEL_NOT_OPEN`]; [`Key::NOT_COMPLETE`] where the queue is full.
+    pub fn io_sbyte(&mut self, channel: ChannelNumber, byte: u8) -> Result<(), Key> {
+        Call::new(IO_SBYTE).with(A0, channel.0).with(D1, u32::from(byte)).on(self, TRAP_3, b"").map(drop)
     }
 }

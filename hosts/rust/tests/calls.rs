@@ -34,10 +34,9 @@ fn each_method_is_its_trap() {
     hub.mt_susjb(helper.job, 9).unwrap();
     assert_eq!(hub.pick().unwrap().job, Some(desk.job));
     let room = hub.mt_alchp(20, helper.job).unwrap();
-    let output = hub.io_open(helper.job, b"PIPE_8").unwrap();
-    let input = hub.io_open_input(desk.job, output).unwrap();
-    hub.io_sbyte(output, 200).unwrap();
-    let (d, o, h) = (desk.job.0, other.job.0, helper.job.0);
+    let queue = hub.io_open(helper.job, b"PIPE_8").unwrap();
+    hub.io_sbyte(queue, 200).unwrap();
+    let (d, o, h, q) = (desk.job.0, other.job.0, helper.job.0, queue.0);
     let record = |job: JobNumber| Record { job, byte: 32 + 32 * job.position() };
     let next = Created { job: JobNumber(0x0004_0004), first_byte: helper.first_byte + 32 };
     let of =
@@ -72,15 +71,12 @@ fn each_method_is_its_trap() {
     let behind = Room { first_byte: room.first_byte + 96, length: 48 };
     same(&hub, (1, [0x18, 40, h, 0, 0, 0, 0, 0], b""), |hub| hub.mt_alchp(40, helper.job), behind);
     same(&hub, (1, [0x19, 0, 0, 0, room.first_byte, 0, 0, 0], b""), |hub| hub.mt_rechp(room.first_byte), ());
-    let third = ChannelNumber(0x0003_0002);
-    same(&hub, (2, [0x1, h, 0, 0, 0, 0, 0, 0], b"PIPE_3"), |hub| hub.io_open(helper.job, b"PIPE_3"), third);
-    same(&hub, (2, [0x1, h, 0, output.0, 0, 0, 0, 0], b"PIPE"), |hub| hub.io_open_input(helper.job, output), third);
-    for end in [output, input] {
-        same(&hub, (2, [0x2, 0, 0, 0, end.0, 0, 0, 0], b""), |hub| hub.io_close(end), ());
-    }
-    same(&hub, (3, [0x0, 0, 0, 0, input.0, 0, 0, 0], b""), |hub| hub.io_pend(input), true);
-    same(&hub, (3, [0x1, 0, 0, 0, input.0, 0, 0, 0], b""), |hub| hub.io_fbyte(input), 200);
-    same(&hub, (3, [0x5, 9, 0, 0, output.0, 0, 0, 0], b""), |hub| hub.io_sbyte(output, 9), ());
+    let second = ChannelNumber(0x0002_0001);
+    same(&hub, (2, [0x1, h, 0, 0, 0, 0, 0, 0], b"PIPE_3"), |hub| hub.io_open(helper.job, b"PIPE_3"), second);
+    same(&hub, (2, [0x2, 0, 0, 0, q, 0, 0, 0], b""), |hub| hub.io_close(queue), ());
+    same(&hub, (3, [0x0, 0, 0, 0, q, 0, 0, 0], b""), |hub| hub.io_pend(queue), true);
+    same(&hub, (3, [0x1, 0, 0, 0, q, 0, 0, 0], b""), |hub| hub.io_fbyte(queue), 200);
+    same(&hub, (3, [0x5, 9, 0, 0, q, 0, 0, 0], b""), |hub| hub.io_sbyte(queue, 9), ());
 }
 
 #[test]
@@ -89,17 +85,14 @@ fn the_fish_tank() {
     let four = hub.mt_cjob(Some(JobNumber::ZERO), 60, 40, 0).unwrap().job;
     let five = hub.mt_cjob(Some(JobNumber::ZERO), 60, 40, 0).unwrap().job;
     let tank = hub.io_open(four, b"PIPE_8").unwrap();
-    let tank_page = hub.io_open_input(four, tank).unwrap();
     hub.io_sbyte(tank, 8).unwrap();
     hub.mt_frjob(four, 0).unwrap();
     assert_eq!(hub.pick(), Ok(Picked { job: Some(JobNumber::ZERO), key: 0 }));
     let pond = hub.io_open(five, b"PIPE_8").unwrap();
-    let pond_page = hub.io_open_input(five, pond).unwrap();
     hub.io_sbyte(pond, 2).unwrap();
-    assert_eq!((tank.position(), tank_page.position()), (pond.position(), pond_page.position()));
-    assert_eq!(hub.io_sbyte(tank, 9), Err(Key::CHANNEL_NOT_OPEN));
-    assert_eq!(hub.io_fbyte(tank_page), Err(Key::CHANNEL_NOT_OPEN));
-    assert_eq!(hub.io_fbyte(pond_page), Ok(2));
+    assert_eq!(tank.position(), pond.position());
+    assert_eq!(hub.io_fbyte(tank), Err(Key::CHANNEL_NOT_OPEN));
+    assert_eq!(hub.io_fbyte(pond), Ok(2));
     assert_eq!(hub.mt_prior(four, 1), Err(Key::INVALID_JOB));
 }
 
@@ -291,49 +284,17 @@ fn queues() {
     let mut hub = hub();
     assert_eq!(hub.io_open(JobNumber::ZERO, b"SER"), Err(Key::NOT_FOUND));
     assert_eq!(hub.io_open(JobNumber::ZERO, b"PIPE_x"), Err(Key::BAD_NAME));
-    assert_eq!(hub.io_open(JobNumber::ZERO, b"PIPE"), Err(Key::CHANNEL_NOT_OPEN));
-    let empty = hub.clone();
-    let output = hub.io_open(JobNumber::CURRENT, b"pipe_2").unwrap();
-    let input = hub.io_open_input(JobNumber::CURRENT, output).unwrap();
-    assert_eq!(hub.io_pend(input), Ok(false));
-    hub.io_sbyte(output, 250).unwrap();
-    hub.io_sbyte(output, 7).unwrap();
-    assert_eq!(hub.io_sbyte(output, 9), Err(Key::NOT_COMPLETE));
-    assert_eq!(hub.io_pend(input), Ok(true));
-    assert_eq!((hub.io_fbyte(input), hub.io_fbyte(input)), (Ok(250), Ok(7)));
-    assert_eq!(hub.io_fbyte(input), Err(Key::NOT_COMPLETE));
-    for channel in [output, input] {
-        assert_eq!(hub.io_close(channel), Ok(()));
-        assert_eq!(hub.io_close(channel), Err(Key::CHANNEL_NOT_OPEN));
-        assert_eq!(hub.io_pend(channel), Err(Key::CHANNEL_NOT_OPEN));
-    }
-    assert_eq!(hub.longwords()[HEAP_BASE], empty.longwords()[HEAP_BASE]);
+    let queue = hub.io_open(JobNumber::CURRENT, b"pipe_2").unwrap();
+    assert_eq!(hub.io_pend(queue), Ok(false));
+    hub.io_sbyte(queue, 250).unwrap();
+    hub.io_sbyte(queue, 7).unwrap();
+    assert_eq!(hub.io_sbyte(queue, 9), Err(Key::NOT_COMPLETE));
+    assert_eq!(hub.io_pend(queue), Ok(true));
+    assert_eq!((hub.io_fbyte(queue), hub.io_fbyte(queue)), (Ok(250), Ok(7)));
+    assert_eq!(hub.io_close(queue), Ok(()));
+    assert_eq!(hub.io_close(queue), Err(Key::CHANNEL_NOT_OPEN));
+    assert_eq!(hub.io_pend(queue), Err(Key::CHANNEL_NOT_OPEN));
     assert_eq!(hub.io_fbyte(ChannelNumber(0)), Err(Key::CHANNEL_NOT_OPEN));
-}
-
-#[test]
-fn an_input_reads_what_remains_when_its_output_is_gone() {
-    let mut hub = hub();
-    let writer = hub.mt_cjob(None, 0, 4, 0).unwrap().job;
-    let output = hub.io_open(writer, b"PIPE_4").unwrap();
-    let inputs = [JobNumber::ZERO, writer].map(|owner| hub.io_open_input(owner, output).unwrap());
-    assert_eq!(hub.io_open_input(JobNumber::ZERO, inputs[0]), Err(Key::CHANNEL_NOT_OPEN));
-    hub.io_sbyte(output, 1).unwrap();
-    hub.io_sbyte(output, 2).unwrap();
-    assert_eq!((hub.io_fbyte(output), hub.io_pend(output)), (Err(Key::BAD_PARAMETER), Err(Key::BAD_PARAMETER)));
-    assert_eq!(hub.io_sbyte(inputs[1], 3), Err(Key::BAD_PARAMETER));
-    assert_eq!(hub.io_fbyte(inputs[1]), Ok(1));
-    let ends = [output, inputs[0]]
-        .map(|end| hub.longwords()[FIRST_CHANNEL + CHANNEL_WIDTH * end.position() as usize + ENDING]);
-    assert_eq!(ends, [OUTPUT, INPUT]);
-    hub.mt_frjob(writer, 0).unwrap();
-    hub.pick().unwrap();
-    assert_eq!(hub.io_open_input(JobNumber::ZERO, output), Err(Key::CHANNEL_NOT_OPEN));
-    assert_eq!(hub.io_fbyte(inputs[1]), Err(Key::CHANNEL_NOT_OPEN));
-    assert_eq!((hub.io_pend(inputs[0]), hub.io_fbyte(inputs[0])), (Ok(true), Ok(2)));
-    assert_eq!((hub.io_pend(inputs[0]), hub.io_fbyte(inputs[0])), (Err(Key::END_OF_FILE), Err(Key::END_OF_FILE)));
-    assert_eq!(format!("{:?}, {0}", Key::END_OF_FILE), "Key::END_OF_FILE (-10), end of file (-10)");
-    assert_eq!(hub.io_close(inputs[0]), Ok(()));
 }
 
 #[test]
@@ -439,8 +400,8 @@ fn reports_of_one_picture_at_once() {
 fn run(hub: &mut Picture) {
     for round in 0..100 {
         let job = hub.mt_cjob(None, round, 4, 0).unwrap().job;
-        let output = hub.io_open(job, b"PIPE_20").unwrap();
-        hub.io_sbyte(output, round as u8).unwrap();
+        let queue = hub.io_open(job, b"PIPE_20").unwrap();
+        hub.io_sbyte(queue, round as u8).unwrap();
         if round % 10 != 0 {
             hub.mt_frjob(job, 0).unwrap();
         }

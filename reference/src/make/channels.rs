@@ -1,17 +1,15 @@
-//! Trials of channels and queues: every key, names of every wrong kind, rings filled and emptied round the end, and both
-//! ends of pipes opened and closed in every order.
+//! Trials of channels and queues: every key, names of every wrong kind, rings filled and emptied round the end.
 
 use super::world::{Act, Mix, World};
 use super::{random_step, without_current_and_unsound, Maker};
 use crate::picture::*;
 
-const CALLS: [Act; 6] = [Act::Open, Act::Join, Act::Close, Act::Pending, Act::Fetch, Act::Send];
+const CALLS: [Act; 5] = [Act::Open, Act::Close, Act::Pending, Act::Fetch, Act::Send];
 
 /// Steps that open, fill, empty and close.
 const QUEUE_MIX: &Mix = &[
-    (Act::Open, 7),
-    (Act::Join, 8),
-    (Act::Close, 4),
+    (Act::Open, 8),
+    (Act::Close, 3),
     (Act::Send, 16),
     (Act::Fetch, 8),
     (Act::Take, 3),
@@ -29,9 +27,6 @@ pub fn listed(maker: &mut Maker) {
     closings(maker);
     rings(maker);
     numbers(maker);
-    joins(maker);
-    closings_of_ends(maker);
-    many_ends(maker);
 }
 
 pub fn one_more(maker: &mut Maker) {
@@ -41,11 +36,6 @@ pub fn one_more(maker: &mut Maker) {
 fn open(maker: &mut Maker, world: &World, job: u32, name: &[u8]) {
     let a0 = maker.random.longword();
     maker.trap(2, name, &[0x1, job, 2, 3, a0, 5, 6, 7], &world.picture);
-}
-
-fn join(maker: &mut Maker, world: &World, job: u32, d3: u32) {
-    let name = maker.random.one_of(&[b"PIPE", b"pipe", b"PIPe", b"pipE"]);
-    maker.trap(2, name, &[0x1, job, 2, d3, 4, 5, 6, 7], &world.picture);
 }
 
 fn close(maker: &mut Maker, world: &World, channel: u32, name: &[u8]) {
@@ -150,6 +140,7 @@ fn openings(maker: &mut Maker) {
     let child = world.create(true, 20);
     for job in [0, child, child + 0x1_0000, 0xFFFF, 0x8000, NOBODY, 0x7FFF, 0x7FFF_FFFF, 1, 32] {
         open(maker, &world, job, b"PIPE_5");
+        open(maker, &world, job, b"PIPE");
     }
     for length in [1, 15, 16, 17, 991, 992, 993] {
         open(maker, &world, child, format!("PIPE_{length}").as_bytes());
@@ -222,32 +213,32 @@ fn closings(maker: &mut Maker) {
 fn rings(maker: &mut Maker) {
     for length in [1, 2, 3, 4, 5, 16, 17] {
         let mut world = World::new(1_024, 64);
-        let (output, input) = world.pipe(0, length);
+        let channel = world.open(0, length);
         let mut byte = maker.random.longword() as u8;
         for round in 0..3 * length + 2 {
             let index_goes_round = round % length == 0 || round % length == length - 1;
             if length <= 5 && round < 2 * length || index_goes_round && round < 2 * length + 1 {
                 let (d1, d3) = (maker.random.longword(), maker.random.longword() & 0xFFFF_0000);
-                queue_call(maker, &world, 0x5, output, d1, d3);
-                queue_call(maker, &world, 0x1, input, d1, d3);
-                queue_call(maker, &world, 0x0, input, d1, d3);
+                queue_call(maker, &world, 0x5, channel, d1, d3);
+                queue_call(maker, &world, 0x1, channel, d1, d3);
+                queue_call(maker, &world, 0x0, channel, d1, d3);
             }
             byte = byte.wrapping_mul(5).wrapping_add(113);
             if round < length {
-                world.send(output, byte);
+                world.send(channel, byte);
             } else {
-                world.fetch(input);
+                world.fetch(channel);
                 if round % 3 != 0 {
-                    world.send(output, byte);
+                    world.send(channel, byte);
                 }
             }
         }
         for _ in 0..length {
-            world.fetch(input);
+            world.fetch(channel);
         }
-        queue_call(maker, &world, 0x1, input, 1, 0);
-        queue_call(maker, &world, 0x0, input, 1, 0);
-        queue_call(maker, &world, 0x5, output, 0x1FF, 0);
+        queue_call(maker, &world, 0x1, channel, 1, 0);
+        queue_call(maker, &world, 0x0, channel, 1, 0);
+        queue_call(maker, &world, 0x5, channel, 0x1FF, 0);
     }
     // The longest queues that fit, at the ends of their bytes.
     for (picture_length, heap_length, length) in [(1_024, 256, 992), (16_384, 8_200, 32_766), (16_384, 8_196, 32_752)] {
@@ -264,13 +255,14 @@ fn rings(maker: &mut Maker) {
             (0, length - 1),
         ] {
             let mut world = World::new(picture_length, heap_length);
-            let (output, input) = world.pipe(0, length);
+            let channel = world.open(0, length);
             world.picture[HEAP + block::HEADER + queue::INDEX] = index;
             world.picture[HEAP + block::HEADER + queue::COUNT] = count;
             let at = HEAP + block::HEADER + queue::BYTES + (index / 4) as usize;
             world.picture[at] = 0x0102_0304;
-            queue_call(maker, &world, 0x1, input, 0xABCD_EF99, 0);
-            queue_call(maker, &world, 0x5, output, 0xABCD_EF99, 0);
+            let call = maker.random.one_of(&[0x1, 0x5]);
+            queue_call(maker, &world, call, channel, 0xABCD_EF99, 0);
+            queue_call(maker, &world, 0x6 - call, channel, 0xABCD_EF99, 0);
         }
     }
 }
@@ -281,131 +273,22 @@ fn numbers(maker: &mut Maker) {
     let child = world.create(true, 20);
     let old = world.open(0, 4);
     world.call(2, [0x2, 0, 0, 0, old, 0, 0, 0], b"");
-    let (full, full_input) = world.pipe(child, 2);
+    let full = world.open(child, 2);
     world.send(full, 1);
     world.send(full, 2);
-    let (empty, empty_input) = world.pipe(0, 2);
-    for channel in [old, full + 0x1_0000, child, 0, 1, 32, 0xFFFF, NOBODY, full | 0x8000, empty_input & 0xFFFF] {
-        for d3 in [0, 1, 0xFFFF, 0x0001_0000] {
+    let empty = world.open(0, 2);
+    for channel in [old, full, empty, full + 0x1_0000, child, 0, 1, 32, 0xFFFF, NOBODY, full | 0x8000, empty & 0xFFFF] {
+        for d3 in [0, 1, 0xFFFF, 0x8000, 0x0001_0000] {
             let call = maker.random.one_of(&[0x0, 0x1, 0x5]);
             queue_call(maker, &world, call, channel, 0x7E, d3);
         }
         close(maker, &world, channel, b"");
     }
-    // Either end of a full queue, of an empty one, and of both when their outputs are gone.
-    let mut ended = world.clone();
-    ended.close(full);
-    ended.close(empty);
-    for world in [&world, &ended] {
-        for channel in [full, full_input, empty, empty_input] {
-            for call in [0x0, 0x1, 0x5] {
-                for d3 in [0, 1, 0xFFFF_0000, 0x8000] {
-                    queue_call(maker, world, call, channel, 0x7E, d3);
-                }
-            }
-            close(maker, world, channel, b"");
-        }
-    }
-}
-
-/// Inputs for every job of every output, and every D3 that is none: each check of the call, in its order.
-fn joins(maker: &mut Maker) {
-    let mut world = World::new(1_024, 256);
-    let child = world.create(true, 20);
-    let old = world.open(0, 4);
-    world.close(old);
-    let (output, input) = world.pipe(child, 5);
-    world.send(output, b'a');
-    let other = world.open(0, 2);
-    for job in [0, child, child + 0x1_0000, 0xFFFF, 0x8000, NOBODY, 0x7FFF, 1, 32] {
-        for d3 in [output, other, old] {
-            join(maker, &world, job, d3);
-        }
-    }
-    let (bit_15, next) = (output | 0x8000, output + 0x1_0000);
-    for d3 in [0, 1, 32, input, bit_15, next, child, 0xFFFF, 0x8000, NOBODY, position(output) as u32, 4 * HEAP as u32] {
-        join(maker, &world, 0, d3);
-        maker.trap(2, b"PIPE_3", &[0x1, 0, 0, d3, 0, 0, 0, 0], &world.picture);
-    }
-    for name in [&b"PIPE_"[..], b"PIPE\0", b"PIPE ", b"PIPEX", b"PIP", b"PIPE_0"] {
-        maker.trap(2, name, &[0x1, 0, 0, output, 0, 0, 0, 0], &world.picture);
-    }
-    // An output that is gone has inputs, but no more join it.
-    let mut ended = world.clone();
-    ended.close(output);
-    for d3 in [output, input, other] {
-        join(maker, &ended, child, d3);
-    }
-    // The last tags, and no free block in the heap: an input needs none.
-    for last in [LAST_TAG - 1, LAST_TAG] {
-        world.picture[LAST_CHANNEL_TAG] = last;
-        for d3 in [output, input, 0] {
-            join(maker, &world, 0, d3);
-        }
-    }
-    let mut full = World::new(1_024, 12);
-    let output = full.open(0, 16);
-    join(maker, &full, 0, output);
-    open(maker, &full, 0, b"PIPE_1");
-}
-
-/// Each end closed in every state that any order of closings leads through, each end being another job's.
-fn closings_of_ends(maker: &mut Maker) {
-    for (inputs, rising) in [(0, true), (1, true), (1, false), (2, true), (2, false), (3, true), (3, false)] {
-        let mut world = World::new(1_024, 64);
-        let jobs = [world.create(true, 4), world.create(false, 4), 0, world.create(true, 4)];
-        let ends = world.pipe_for(&jobs[..=inputs], rising);
-        for closed in 0..1u32 << ends.len() {
-            let mut world = world.clone();
-            for k in positions(closed) {
-                world.close(ends[k]);
-            }
-            for k in positions(!closed & ((1 << ends.len()) - 1)) {
-                close(maker, &world, ends[k], b"PIPE");
-            }
-            // The output is gone: its inputs read what remains, and then are at its end.
-            if closed == 1 {
-                for &end in &ends {
-                    queue_call(maker, &world, 0x1, end, 0x7E, 0);
-                }
-                for &end in &ends[1..] {
-                    world.fetch(end);
-                    world.fetch(end);
-                    queue_call(maker, &world, 0x0, end, 0x7E, 0);
-                    queue_call(maker, &world, 0x1, end, 0x7E, 0x7777_0000);
-                }
+    for call in [0x0, 0x1, 0x5] {
+        for channel in [full, empty, old] {
+            for d3 in [0, 1, 0xFFFF_0000, NOBODY] {
+                queue_call(maker, &world, call, channel, 0x7E, d3);
             }
         }
     }
-}
-
-/// A queue with 32 ends: no more join, bytes come out at any of them, and it outlives its output.
-fn many_ends(maker: &mut Maker) {
-    let mut world = World::new(1_024, 64);
-    let child = world.create(true, 4);
-    let output = world.open(0, 9);
-    for k in 1..POSITIONS {
-        world.join(if k % 2 == 0 { 0 } else { child }, output);
-    }
-    for byte in b"abc" {
-        world.send(output, *byte);
-    }
-    let inputs = world.ends(channel::INPUT);
-    for (job, d3) in [(0, output), (child, output), (0, inputs[7]), (0, 0), (9, output)] {
-        join(maker, &world, job, d3);
-    }
-    open(maker, &world, 0, b"PIPE_1");
-    for input in [inputs[0], inputs[14], inputs[30]] {
-        queue_call(maker, &world, 0x1, input, 1, 0);
-        let mut one_left = world.clone();
-        one_left.close(input);
-        join(maker, &one_left, child, output);
-        one_left.close(output);
-        close(maker, &one_left, inputs[0], b"");
-        close(maker, &one_left, inputs[1], b"");
-    }
-    close(maker, &world, output, b"");
-    maker.trap(1, b"", &[0x5, child, 0, 0, 0, 0, 0, 0], &world.picture);
-    world.close(output);
-    maker.trap(1, b"", &[0x5, child, 0, 0, 0, 0, 0, 0], &world.picture);
 }

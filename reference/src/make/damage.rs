@@ -27,8 +27,8 @@ pub enum Damage {
     Accumulated,
     /// A timeout is neither 0 nor -1 nor 1 to 32,767.
     Timeout,
-    /// A channel record ends neither in 1 nor in 2.
-    ChannelEnd,
+    /// A channel record doesn't end in 1.
+    ChannelOne,
     /// An unused job record isn't all zero.
     UnusedJobRecords,
     /// An unused channel record isn't all zero.
@@ -81,19 +81,15 @@ pub enum Damage {
     BlockJob,
     /// A job's record and its block have different owners.
     JobBlockOwner,
-    /// A channel's base is that of no queue.
+    /// A channel has no block of its own.
     ChannelBlock,
-    /// A kind 2 block has no end.
+    /// A kind 2 block is no channel's.
     BlockChannel,
-    /// A queue has two outputs.
-    TwoOutputs,
-    /// A queue is another's than its output's owner or, without an output, that of its input at the lowest position.
-    QueueOwner,
-    /// An input's owner is dead or nobody, while its queue has an owner.
-    InputOwner,
+    /// A channel's record and its block have different owners.
+    ChannelBlockOwner,
     /// A job's owner is dead.
     JobOwner,
-    /// The owner of a channel and of its queue is dead or nobody.
+    /// A channel's owner is dead or nobody.
     ChannelOwner,
     /// A plain block's owner is dead or nobody.
     PlainOwner,
@@ -120,7 +116,7 @@ pub enum Damage {
 }
 
 /// Every damage with the rules that it breaks: one of them or more, and no others.
-pub const DAMAGES: [(Damage, &[Rule]); 56] = {
+pub const DAMAGES: [(Damage, &[Rule]); 54] = {
     use crate::sound::Table::*;
     use Damage::*;
     use Rule::*;
@@ -136,7 +132,7 @@ pub const DAMAGES: [(Damage, &[Rule]); 56] = {
         (Priority, &[PriorityWithin]),
         (Accumulated, &[AccumulatedWithin]),
         (Timeout, &[TimeoutWithin]),
-        (ChannelEnd, &[EndsKnown]),
+        (ChannelOne, &[EndsInOne]),
         (UnusedJobRecords, &[PriorityWithin, AccumulatedWithin, TimeoutWithin, Blank(Jobs)]),
         (UnusedChannelRecords, &[Blank(Channels)]),
         (JobPosition, &[Positioned(Jobs)]),
@@ -158,16 +154,14 @@ pub const DAMAGES: [(Damage, &[Rule]); 56] = {
         (QueueZero, &[QueueRoom]),
         (Tiling, &[Tiles]),
         (FreeTouch, &[Untouched]),
-        (HeapKinds, &[KindFits, EntryMatched(Channels)]),
+        (HeapKinds, &[KindFits]),
         (TransientKind, &[KindFits]),
         (JobBlock, &[BlockMatched(Jobs), EntryMatched(Jobs)]),
         (BlockJob, &[BlockMatched(Jobs)]),
         (JobBlockOwner, &[BlockMatched(Jobs), EntryMatched(Jobs)]),
-        (ChannelBlock, &[EntryMatched(Channels)]),
+        (ChannelBlock, &[BlockMatched(Channels), EntryMatched(Channels)]),
         (BlockChannel, &[BlockMatched(Channels)]),
-        (TwoOutputs, &[BlockMatched(Channels)]),
-        (QueueOwner, &[BlockMatched(Channels)]),
-        (InputOwner, &[OwnerLive(Channels)]),
+        (ChannelBlockOwner, &[BlockMatched(Channels), EntryMatched(Channels)]),
         (JobOwner, &[OwnerLive(Jobs), HolderLive]),
         (ChannelOwner, &[OwnerLive(Channels), HolderLive]),
         (PlainOwner, &[HolderLive]),

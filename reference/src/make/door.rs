@@ -12,7 +12,6 @@ pub fn listed(maker: &mut Maker) {
     not_trials(maker);
     every_trap_and_call(maker);
     every_register_count(maker);
-    both_ends(maker);
 }
 
 pub fn one_more(maker: &mut Maker) {
@@ -73,24 +72,6 @@ fn every_trap_and_call(maker: &mut Maker) {
     }
     for trap in 0..=0xEF {
         maker.trap(trap, b"", &[0, 0, 0, 0, 0, 0, 0, 0], &picture);
-    }
-}
-
-/// Every call at both ends of a queue, and when its output is gone.
-fn both_ends(maker: &mut Maker) {
-    let mut world = World::new(1_024, 256);
-    let (output, input) = world.pipe(0, 3);
-    for output_closed in [false, true] {
-        if output_closed {
-            world.close(output);
-        }
-        for channel in [output, input] {
-            maker.trap(2, b"PIPE", &[0x1, 0, 0, channel, 0, 0, 0, 0], &world.picture);
-            maker.trap(2, b"", &[0x2, 0, 0, 0, channel, 0, 0, 0], &world.picture);
-            for call in [0x0, 0x1, 0x5] {
-                maker.trap(3, b"", &[call, 0, 0, 0, channel, 0, 0, 0], &world.picture);
-            }
-        }
     }
 }
 

@@ -23,8 +23,6 @@ pub const TREE_MIX: &Mix = &[
     (Act::Pick, 8),
     (Act::Take, 3),
     (Act::Open, 3),
-    (Act::Join, 3),
-    (Act::Close, 1),
     (Act::Suspend, 3),
     (Act::Release, 1),
     (Act::SetPriority, 2),
@@ -38,7 +36,6 @@ pub fn listed(maker: &mut Maker) {
     tables_used_up(maker);
     free_positions(maker);
     deep_and_wide(maker);
-    ends_of_trees(maker);
     waits(maker);
     asks(maker);
     suspensions(maker);
@@ -317,43 +314,6 @@ fn deep_and_wide(maker: &mut Maker) {
         let (world, _, _, _) = family();
         call(maker, &world, 0x4, d1, 0, d3, 0);
         call(maker, &world, 0x5, d1, 0, d3, 0);
-    }
-}
-
-/// Queues with an output and two inputs, each end inside a tree that ends or outside it, in every way there is.
-fn ends_of_trees(maker: &mut Maker) {
-    for owners in 0..27usize {
-        let (mut world, child, grandchild, stranger) = family();
-        let inside = [child, grandchild][owners % 2];
-        let jobs = [owners / 9, owners / 3 % 3, owners % 3].map(|k| [inside, stranger, 0][k]);
-        for rising in [true, false] {
-            let mut world = world.clone();
-            world.pipe_for(&jobs, rising);
-            call(maker, &world, 0x5, child, 0, 0x77, 0);
-        }
-        // The tree has a plain block behind the queue, and the output is gone before.
-        let ends = world.pipe_for(&jobs, owners % 2 == 0);
-        world.take(inside, 20);
-        world.close(ends[0]);
-        call(maker, &world, 0x5, inside, 0, 0x77, 0);
-    }
-    // Several queues side by side of which some go, some stay as they are and some are handed on.
-    for round in 0..8 {
-        let (mut world, child, grandchild, stranger) = family();
-        let jobs = [child, stranger, grandchild, 0];
-        for k in 0..5 {
-            let output = world.open(jobs[(k + round) % 4], 4 + 5 * k as u32);
-            world.send(output, b'p' + k as u8);
-            for j in 0..(k + round) % 4 {
-                world.join(jobs[(k * j + j + round / 2) % 4], output);
-            }
-            if (k + round) % 4 > 1 && k % 2 == 0 {
-                world.close(output);
-            }
-        }
-        for top in [child, stranger] {
-            call(maker, &world, 0x5, top, 0, 0x78, 0);
-        }
     }
 }
 

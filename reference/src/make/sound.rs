@@ -26,8 +26,6 @@ pub fn listed(maker: &mut Maker) {
     }
     every_place(maker);
     several_together(maker);
-    ends_by_hand(maker);
-    inputs_alone(maker);
     for round in 0..80 {
         let picture =
             if round < 12 { World::usual(&mut maker.random).picture } else { some_picture(&mut maker.random) };
@@ -187,7 +185,6 @@ fn every_place(maker: &mut Maker) {
     let plain = world.take(0, 30);
     let channel = world.open(child, 6);
     world.send(channel, 0x41);
-    world.join(0, channel);
     world.create(false, 40);
     world.free(plain);
     let mut places: Vec<usize> = (0..JOB_RECORDS).collect();
@@ -254,82 +251,6 @@ fn several_together(maker: &mut Maker) {
         let mut changed = world.clone();
         changed.picture[HEAP + block::HEADER + queue::LENGTH] = n;
         ask(maker, &changed.picture);
-    }
-}
-
-/// Each rule of ends broken by hand, where the output lives and where it is gone.
-fn ends_by_hand(maker: &mut Maker) {
-    let mut world = World::new(1_024, 256);
-    let owners = [world.create(true, 20), world.create(false, 20), 0, world.create(true, 20)];
-    let plain = world.take(0, 20);
-    // Positions fall as tags rise, so the input that is opened last stands at the lowest.
-    let ends = world.pipe_for(&owners, false);
-    let [output, first, second, lowest] = [0, 1, 2, 3].map(|k| channel_record(position(ends[k])));
-    let base = world.picture[output + channel::BASE];
-    let holder = (base / 4) as usize + block::OWNER;
-    let free = world.blocks_of(block::FREE).iter().map(|at| 4 * *at as u32).collect::<Vec<_>>();
-    let mut without_output = world.clone();
-    without_output.close(ends[0]);
-    for world in [&world, &without_output] {
-        let mut change = |place: usize, longword: u32| {
-            let mut changed = world.clone();
-            changed.picture[place] = longword;
-            ask(maker, &changed.picture);
-        };
-        for record in [output, first, lowest] {
-            for end in [0, 1, 2, 3, 0x1_0001, 0x8000_0002, NOBODY] {
-                change(record + channel::END, end);
-            }
-        }
-        // The owners of its ends, of which one is right, and of none of them.
-        for owner in [owners[0], owners[1], owners[2], owners[3], owners[0] + 0x1_0000, NOBODY] {
-            change(holder, owner);
-        }
-        for record in [first, second, lowest] {
-            for owner in [owners[0], owners[3], owners[0] + 0x1_0000, NOBODY] {
-                change(record + channel::OWNER, owner);
-            }
-        }
-        // A base of a plain block, of free ones, of jobs' blocks, in the middle of a block, and outside.
-        let jobs = world.blocks_of(block::JOB).iter().map(|at| 4 * *at as u32).collect::<Vec<_>>();
-        let wrong = [plain - 16, plain, base + 16, base + 4, base + 1, base - 16, 0, 16, 4 * 1_024, 4 * 1_020, NOBODY];
-        for wrong in [&wrong[..], &free, &jobs, &[base ^ 0x8000_0000, base ^ 0x1_0000]].concat() {
-            change(first + channel::BASE, wrong);
-        }
-        change(lowest + channel::BASE, plain - 16);
-    }
-    // A queue without an end: its last input has another base, or is gone.
-    for gone in [false, true] {
-        let mut world = World::new(1_024, 256);
-        let (output, input) = world.pipe(0, 3);
-        world.close(output);
-        let other = world.open(0, 3);
-        let record = channel_record(position(input));
-        if gone {
-            world.picture[record..record + CHANNEL_RECORD].fill(0);
-            world.picture[CHANNEL_MASK] &= !(1 << position(input));
-        } else {
-            world.picture[record + channel::BASE] = world.picture[channel_record(position(other)) + channel::BASE];
-        }
-        ask(maker, &world.picture);
-    }
-}
-
-/// Queues with inputs only, which may hold any count of bytes, and queues with as many ends as there are positions.
-fn inputs_alone(maker: &mut Maker) {
-    for inputs in [1, 2, 31] {
-        let mut world = World::new(1_024, 64);
-        let child = world.create(true, 4);
-        let output = world.open(0, 3);
-        for k in 0..inputs {
-            world.join([child, 0][k % 2], output);
-        }
-        ask(maker, &world.picture);
-        world.close(output);
-        for count in 0..=4 {
-            world.picture[HEAP + block::HEADER + queue::COUNT] = count;
-            ask(maker, &world.picture);
-        }
     }
 }
 
@@ -484,8 +405,8 @@ fn try_to_break(random: &mut Random, damage: Damage) -> Option<Vec<u32>> {
                 world.picture[CURRENT] = NOBODY;
             }
         }
-        Damage::ChannelEnd => {
-            world.picture[channel_record(position(channel?)) + channel::END] = random.one_of(&[0, 3, big, NOBODY]);
+        Damage::ChannelOne => {
+            world.picture[channel_record(position(channel?)) + channel::ONE] = random.one_of(&[0, 2, big, NOBODY]);
         }
         Damage::UnusedJobRecords => {
             let k = free_position(world.picture[JOB_MASK])? + random.below(8);
@@ -617,7 +538,7 @@ fn try_to_break(random: &mut Random, damage: Damage) -> Option<Vec<u32>> {
                 let n = big % 40 + 1;
                 let at = place_by_hand(&mut world, at, (32 + n).next_multiple_of(16), block::QUEUE, live)?;
                 write_queue(&mut world, at, n);
-                add_channel(&mut world, live, 4 * at as u32, random.one_of(&[channel::OUTPUT, channel::INPUT]))?;
+                add_channel(&mut world, live, 4 * at as u32)?;
             }
         }
         Damage::TransientKind => {
@@ -659,17 +580,20 @@ fn try_to_break(random: &mut Random, damage: Damage) -> Option<Vec<u32>> {
             }
         }
         Damage::ChannelBlock => {
-            let all = [world.heap_headers(), world.transient_headers()].concat();
-            let header = 4 * random.one_of(&all) as u32;
-            let base = random.one_of(&[0, 1, 16, big, NOBODY, header, header, header + 4, header + 16, header + 1]);
-            let free = 4 * random.one_of(&world.blocks_of(block::FREE)) as u32;
-            let base = if random.once_in(4) { free + 16 } else { base };
-            if base == free + 16 {
-                // What looks like a header stands in room, and is none.
-                write_header_in_room(&mut world, base, [48, block::QUEUE, live, 0])?;
-                write_header_in_room(&mut world, base + 16, [9, 0, 0, 0])?;
+            let sharing = channel.filter(|_| random.once_in(2));
+            if let Some(channel) = sharing {
+                let record = channel_record(position(channel));
+                let (owner, base) = (world.picture[record + channel::OWNER], world.picture[record + channel::BASE]);
+                add_channel(&mut world, owner, base)?;
+            } else {
+                let header = 4 * random.one_of(&world.blocks_of(block::FREE)) as u32;
+                let base = random.one_of(&[0, 1, 16, big, NOBODY, header, header + 16, header + 16, header + 1]);
+                if base == header + 16 {
+                    write_header_in_room(&mut world, base, [48, block::QUEUE, live, 0])?;
+                    write_header_in_room(&mut world, base + 16, [9, 0, 0, 0])?;
+                }
+                add_channel(&mut world, live, base)?;
             }
-            add_channel(&mut world, live, base, random.one_of(&[channel::OUTPUT, channel::INPUT]))?;
         }
         Damage::BlockChannel => {
             let at = free_block_of(random, &world, true)?;
@@ -677,35 +601,14 @@ fn try_to_break(random: &mut Random, damage: Damage) -> Option<Vec<u32>> {
             let at = place_by_hand(&mut world, at, (32 + n).next_multiple_of(16), block::QUEUE, live)?;
             write_queue(&mut world, at, n);
         }
-        Damage::TwoOutputs => {
-            let input = one_of(random, &world.ends(channel::INPUT));
-            if let Some(input) = input.filter(|_| random.once_in(2)) {
-                world.picture[channel_record(position(input)) + channel::END] = channel::OUTPUT;
-            } else {
-                let output = one_of(random, &world.ends(channel::OUTPUT))?;
-                let record = channel_record(position(output));
-                let owner = if random.once_in(2) { world.picture[record + channel::OWNER] } else { live };
-                let base = world.picture[record + channel::BASE];
-                add_channel(&mut world, owner, base, channel::OUTPUT)?;
-            }
-        }
-        Damage::QueueOwner => {
+        Damage::ChannelBlockOwner => {
             let record = channel_record(position(channel?));
-            if random.once_in(3) {
+            if random.once_in(2) {
                 world.picture[record + channel::OWNER] = live;
             } else {
-                // Another live job, mostly the owner of another of its ends.
-                let base = world.picture[record + channel::BASE];
-                let mut others = world.channels();
-                others.retain(|&number| world.picture[channel_record(position(number)) + channel::BASE] == base);
-                let other = channel_record(position(random.one_of(&others)));
-                let owner = if random.once_in(3) { live } else { world.picture[other + channel::OWNER] };
-                world.picture[(base / 4) as usize + block::OWNER] = owner;
+                let base = (world.picture[record + channel::BASE] / 4) as usize;
+                world.picture[base + block::OWNER] = live;
             }
-        }
-        Damage::InputOwner => {
-            let input = one_of(random, &world.ends(channel::INPUT))?;
-            world.picture[channel_record(position(input)) + channel::OWNER] = dead_owner(random, live);
         }
         Damage::JobOwner => {
             let k = position(job?);
@@ -911,12 +814,12 @@ fn add_job(world: &mut World, owner: u32, base: u32) -> Option<()> {
 }
 
 /// Adds a channel record with the next tag by hand.
-fn add_channel(world: &mut World, owner: u32, base: u32, end: u32) -> Option<()> {
+fn add_channel(world: &mut World, owner: u32, base: u32) -> Option<()> {
     let k = free_position(world.picture[CHANNEL_MASK])?;
     world.picture[LAST_CHANNEL_TAG] += 1;
     let number = number(world.picture[LAST_CHANNEL_TAG], k);
     world.picture[CHANNEL_MASK] |= 1 << k;
-    world.picture[channel_record(k)..][..4].copy_from_slice(&[number, owner, base, end]);
+    world.picture[channel_record(k)..][..4].copy_from_slice(&[number, owner, base, 1]);
     Some(())
 }
 

@@ -30,10 +30,7 @@ pub enum Act {
     SetPriority,
     Take,
     Free,
-    /// Opens an output, PIPE_n.
     Open,
-    /// Opens an input, PIPE.
-    Join,
     Close,
     Pending,
     Fetch,
@@ -58,7 +55,7 @@ impl Act {
             Act::SetPriority => (1, 0xB),
             Act::Take => (1, 0x18),
             Act::Free => (1, 0x19),
-            Act::Open | Act::Join => (2, 0x1),
+            Act::Open => (2, 0x1),
             Act::Close => (2, 0x2),
             Act::Pending => (3, 0x0),
             Act::Fetch => (3, 0x1),
@@ -74,7 +71,7 @@ pub type Mix = [(Act, usize)];
 /// Every act, in measures that keep a picture lively.
 pub const LIVELY: &Mix = &[
     (Act::AskSystem, 1),
-    (Act::Create, 18),
+    (Act::Create, 14),
     (Act::Ask, 3),
     (Act::EndInactive, 2),
     (Act::EndForced, 3),
@@ -85,18 +82,17 @@ pub const LIVELY: &Mix = &[
     (Act::SetPriority, 4),
     (Act::Take, 12),
     (Act::Free, 6),
-    (Act::Open, 9),
-    (Act::Join, 9),
-    (Act::Close, 5),
+    (Act::Open, 10),
+    (Act::Close, 4),
     (Act::Pending, 2),
-    (Act::Fetch, 6),
+    (Act::Fetch, 5),
     (Act::Send, 12),
     (Act::Pick, 10),
     (Act::Tick, 4),
 ];
 
 /// The trap calls, for trials of one of them.
-pub const CALLS: [Act; 18] = [
+pub const CALLS: [Act; 17] = [
     Act::AskSystem,
     Act::Create,
     Act::Ask,
@@ -110,7 +106,6 @@ pub const CALLS: [Act; 18] = [
     Act::Take,
     Act::Free,
     Act::Open,
-    Act::Join,
     Act::Close,
     Act::Pending,
     Act::Fetch,
@@ -235,42 +230,6 @@ impl World {
         after[A0]
     }
 
-    /// Opens an input of the output's queue.
-    pub fn join(&mut self, owner: u32, output: u32) -> u32 {
-        let (key, after) = self.call(2, [0x1, owner, 0, output, 0, 0, 0, 0], b"PIPE");
-        assert_eq!(key, 0, "an output is joined");
-        after[A0]
-    }
-
-    /// Opens an output with a queue of so many bytes, and an input of it.
-    pub fn pipe(&mut self, owner: u32, length: u32) -> (u32, u32) {
-        let output = self.open(owner, length);
-        (output, self.join(owner, output))
-    }
-
-    /// Opens an output for the first owner and an input of it for each of the others, and sends two bytes. The queue
-    /// stands between two plain blocks. Positions rise with the tags, or they fall.
-    pub fn pipe_for(&mut self, owners: &[u32], rising: bool) -> Vec<u32> {
-        let mut fillers: Vec<u32> = owners[1..].iter().filter(|_| !rising).map(|_| self.open(0, 1)).collect();
-        self.take(0, 1);
-        let output = self.open(owners[0], 3);
-        self.take(0, 1);
-        let mut ends = vec![output];
-        for &owner in &owners[1..] {
-            if let Some(filler) = fillers.pop() {
-                self.close(filler);
-            }
-            ends.push(self.join(owner, output));
-        }
-        self.send(output, b'x');
-        self.send(output, b'y');
-        ends
-    }
-
-    pub fn close(&mut self, channel: u32) {
-        assert_eq!(self.call(2, [0x2, 0, 0, 0, channel, 0, 0, 0], b"").0, 0, "a channel is closed");
-    }
-
     pub fn send(&mut self, channel: u32, byte: u8) -> Key {
         self.call(3, [0x5, u32::from(byte), 0, 0, channel, 0, 0, 0], b"").0
     }
@@ -287,13 +246,6 @@ impl World {
 
     pub fn channels(&self) -> Vec<u32> {
         positions(self.picture[CHANNEL_MASK]).map(|k| self.picture[channel_record(k)]).collect()
-    }
-
-    /// The live channels that are this end of their queue.
-    pub fn ends(&self, end: u32) -> Vec<u32> {
-        let mut channels = self.channels();
-        channels.retain(|&number| self.picture[channel_record(position(number)) + channel::END] == end);
-        channels
     }
 
     /// The headers of one area, as far as the walk goes; the picture need not be sound.
@@ -348,16 +300,6 @@ impl World {
             2 => number(random.between(0, self.picture[LAST_CHANNEL_TAG] + 1), random.below(34)),
             3 => random.one_of(&[NOBODY, 0, 0x0000_FFFF, self.picture[CURRENT]]),
             _ => live,
-        }
-    }
-
-    /// A channel that is this end of its queue, mostly.
-    pub fn some_end(&self, random: &mut Random, end: u32) -> u32 {
-        let ends = self.ends(end);
-        if ends.is_empty() || random.once_in(6) {
-            self.some_channel(random)
-        } else {
-            random.one_of(&ends)
         }
     }
 
@@ -522,15 +464,9 @@ impl World {
                 registers[D1] = self.some_job(random);
                 name = World::some_name(random);
             }
-            Act::Join => {
-                registers[D1] = self.some_job(random);
-                registers[D3] = self.some_end(random, channel::OUTPUT);
-                name = random.one_of(&[b"PIPE", b"PIPE", b"pipe", b"PiPe"]).to_vec();
-            }
             Act::Close => registers[A0] = self.some_channel(random),
             Act::Pending | Act::Fetch | Act::Send => {
-                let end = if act == Act::Send { channel::OUTPUT } else { channel::INPUT };
-                registers[A0] = self.some_end(random, end);
+                registers[A0] = self.some_channel(random);
                 registers[D3] = if random.once_in(16) { random.longword() } else { registers[D3] & 0xFFFF_0000 };
             }
         }

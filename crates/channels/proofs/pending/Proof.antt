@@ -1,23 +1,18 @@
-use mir.Syntax.{w32}
-use mir.ValLaws.{to_z-of_z}
 use mathlib.Core.Path.{◌≡◌, sym, ◌∙◌}
 use borrow.Author.Tests.{not-true, not-false}
 use Rattle.words.specs.Words.{word}
 use Rattle.calls.proofs.Outcome.{meets_refuse, meets_succeed}
 use Rattle.calls.specs.Call.{outcome}
-use Rattle.sound.proofs.Room.{sound_tables}
-use Rattle.closing.proofs.Found.{Named, channel_named}
-use Rattle.channels.proofs.Ways.{pending_stops_at_the_end, pending_stops_at_an_empty_queue, pending_is_done}
+use Rattle.channels.proofs.Found.{Named, channel_named}
 use Rattle.channels.specs.Calls.{pending}
 use borrow.Author.Rules.{rules}
 use Rattle.channels.proofs.pending.Statement.{statement}
 use Rattle.channels.proofs.pending.Tie as tie
 use Rattle.channels.proofs.pending.Reads as reads
 use Rattle.channels.proofs.pending.Lts as lts
-use Rattle.closing.proofs.channel_named.Reads as channel-named-reads
-use Rattle.channels.proofs.empty_key.Reads as empty-key-reads
-use Rattle.channels.proofs.is_usable.Reads as is-usable-reads
-use Rattle.closing.proofs.queue_at.Reads as queue-at-reads
+use Rattle.channels.proofs.channel_named.Reads as channel-named-reads
+use Rattle.channels.proofs.is_immediate.Reads as is-immediate-reads
+use Rattle.channels.proofs.queue_at.Reads as queue-at-reads
 use Rattle.queues.proofs.is_waiting.Reads as is-waiting-reads
 
 -- the channel that A0 names
@@ -43,8 +38,8 @@ returns : tie.Need-returns
 unfolding pending outcome
 returns c = meets_refuse _ _ _ _ (rw (sym c.before.before.channel-named.ensures ∙ c.enum_told.given.1))
 
-is-usable-requires : tie.Need-is-usable-requires
-is-usable-requires c κs = (found c.before.before).below
+is-immediate-requires : tie.Need-is-immediate-requires
+is-immediate-requires c κs = search rules
 
 same-length-3 : tie.Need-same-length-3
 same-length-3 c = search rules
@@ -53,18 +48,15 @@ same-length-4 : tie.Need-same-length-4
 same-length-4 c = search rules
 
 returns-2 : tie.Need-returns-2
-returns-2 c = let a = c.before in let f = found a.before.before.before in
-    meets_refuse _ _ _ _ (pending_stops_at_the_end _ _ _ f.finds (sym a.is-usable.ensures ∙ not-true _ c.if1.true))
+unfolding pending outcome
+returns-2 c = let a = c.before in let f = found a.before.before in
+    meets_refuse _ _ _ _ (rw (f.finds, sym a.is-immediate.ensures ∙ not-true _ c.if1.true))
 
 queue-at-requires : tie.Need-queue-at-requires
-queue-at-requires c κs = (found c.before.before.before.before.before).below
+queue-at-requires c κs = (found c.before.before.before.before).below
 
 is-waiting-requires : tie.Need-is-waiting-requires
 is-waiting-requires c κs = search rules
-
-empty-key-requires : tie.Need-empty-key-requires
-empty-key-requires c κs = let x = c.before.before.before.before.before.before.before.before.before in let s = x.before.before.before.before.before.before.before.before in
-    (sound_tables s.args.p.now s.requires, (found x).below)
 
 same-length-5 : tie.Need-same-length-5
 same-length-5 c = search rules
@@ -73,9 +65,9 @@ same-length-6 : tie.Need-same-length-6
 same-length-6 c = search rules
 
 returns-3 : tie.Need-returns-3
-returns-3 c = let x = c.before.before in let w = x.before in let q = w.before in let e = q.before.before in let a = e.before in let f = found a.before.before.before in
-    rw (to_z-of_z w32 c.empty-key.result (record { sfits = c.empty-key.type-inv }), c.empty-key.ensures) (meets_refuse _ _ _ _ (pending_stops_at_an_empty_queue _ _ _ f.finds (sym a.is-usable.ensures ∙ not-false _ e.if1.false)
-    (rw q.queue-at.ensures.0 at (sym w.is-waiting.ensures ∙ not-true _ x.if2.true))))
+unfolding pending outcome
+returns-3 c = let w = c.before in let q = w.before in let e = q.before.before in let a = e.before in let f = found a.before.before in
+    meets_refuse _ _ _ _ (rw (f.finds, sym a.is-immediate.ensures ∙ not-false _ e.if1.false, rw q.queue-at.ensures.0 at (sym w.is-waiting.ensures ∙ not-true _ c.if2.true)))
 
 same-length-7 : tie.Need-same-length-7
 same-length-7 c = search rules
@@ -84,9 +76,9 @@ same-length-8 : tie.Need-same-length-8
 same-length-8 c = search rules
 
 returns-4 : tie.Need-returns-4
-returns-4 c = let w = c.before in let q = w.before in let e = q.before.before in let a = e.before in let f = found a.before.before.before in
-    meets_succeed _ _ _ (pending_is_done _ _ _ f.finds (sym a.is-usable.ensures ∙ not-false _ e.if1.false)
-    (rw q.queue-at.ensures.0 at (sym w.is-waiting.ensures ∙ not-false _ c.if2.false)))
+unfolding pending outcome
+returns-4 c = let w = c.before in let q = w.before in let e = q.before.before in let a = e.before in let f = found a.before.before in
+    meets_succeed _ _ _ (rw (f.finds, sym a.is-immediate.ensures ∙ not-false _ e.if1.false, rw q.queue-at.ensures.0 at (sym w.is-waiting.ensures ∙ not-false _ c.if2.false)))
 
 pub pending-spec : {M : Type 1} → statement M
 pending-spec =
@@ -98,13 +90,12 @@ pending-spec =
     same_length
     same-length-2
     returns
-    is-usable-requires
+    is-immediate-requires
     same-length-3
     same-length-4
     returns-2
     queue-at-requires
     is-waiting-requires
-    empty-key-requires
     same-length-5
     same-length-6
     returns-3

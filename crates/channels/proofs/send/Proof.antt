@@ -1,21 +1,20 @@
-use mathlib.Core.Path.{◌≡◌, sym, ◌∙◌, subst}
 use native.Mathlib.Omega.{arith}
+use Rattle.queues.specs.Ring.{Ring, full}
+use mathlib.Core.Path.{◌≡◌, sym, ◌∙◌, subst}
 use borrow.Author.Tests.{not-true, not-false}
 use Rattle.words.specs.Words.{word}
 use Rattle.calls.proofs.Outcome.{meets_refuse, meets_succeed}
 use Rattle.calls.specs.Call.{outcome}
-use Rattle.queues.specs.Ring.{Ring, full}
-use Rattle.closing.proofs.Found.{Named, channel_named, Held, named_queue}
-use Rattle.channels.proofs.Ways.{send_stops_at_the_end, send_stops_at_a_full_queue, send_is_done}
+use Rattle.channels.proofs.Found.{Named, channel_named, Held, named_queue}
 use Rattle.channels.specs.Calls.{send}
 use borrow.Author.Rules.{rules}
 use Rattle.channels.proofs.send.Statement.{statement}
 use Rattle.channels.proofs.send.Tie as tie
 use Rattle.channels.proofs.send.Reads as reads
 use Rattle.channels.proofs.send.Lts as lts
-use Rattle.closing.proofs.channel_named.Reads as channel-named-reads
-use Rattle.channels.proofs.is_usable.Reads as is-usable-reads
-use Rattle.closing.proofs.queue_at.Reads as queue-at-reads
+use Rattle.channels.proofs.channel_named.Reads as channel-named-reads
+use Rattle.channels.proofs.is_immediate.Reads as is-immediate-reads
+use Rattle.channels.proofs.queue_at.Reads as queue-at-reads
 use Rattle.queues.proofs.add_newest.Reads as add-newest-reads
 use Rattle.queues.proofs.is_full.Reads as is-full-reads
 use Rattle.words.proofs.word.Reads as word-reads
@@ -43,8 +42,8 @@ returns : tie.Need-returns
 unfolding send outcome
 returns c = meets_refuse _ _ _ _ (rw (sym c.before.before.channel-named.ensures ∙ c.enum_told.given.1))
 
-is-usable-requires : tie.Need-is-usable-requires
-is-usable-requires c κs = (found c.before.before).below
+is-immediate-requires : tie.Need-is-immediate-requires
+is-immediate-requires c κs = search rules
 
 same-length-3 : tie.Need-same-length-3
 same-length-3 c = search rules
@@ -53,11 +52,12 @@ same-length-4 : tie.Need-same-length-4
 same-length-4 c = search rules
 
 returns-2 : tie.Need-returns-2
-returns-2 c = let a = c.before in let f = found a.before.before.before in
-    meets_refuse _ _ _ _ (send_stops_at_the_end _ _ _ f.finds (sym a.is-usable.ensures ∙ not-true _ c.if1.true))
+unfolding send outcome
+returns-2 c = let a = c.before in let f = found a.before.before in
+    meets_refuse _ _ _ _ (rw (f.finds, sym a.is-immediate.ensures ∙ not-true _ c.if1.true))
 
 queue-at-requires : tie.Need-queue-at-requires
-queue-at-requires c κs = (found c.before.before.before.before.before).below
+queue-at-requires c κs = (found c.before.before.before.before).below
 
 is-full-requires : tie.Need-is-full-requires
 is-full-requires c κs = search rules
@@ -69,14 +69,15 @@ same-length-6 : tie.Need-same-length-6
 same-length-6 c = search rules
 
 returns-3 : tie.Need-returns-3
-returns-3 c = let w = c.before in let q = w.before.before in let e = q.before.before in let a = e.before in let f = found a.before.before.before in
-    meets_refuse _ _ _ _ (send_stops_at_a_full_queue _ _ _ f.finds (sym a.is-usable.ensures ∙ not-false _ e.if1.false) (rw q.queue-at.ensures.0 at (sym w.is-full.ensures ∙ c.if2.true)))
+unfolding send outcome
+returns-3 c = let w = c.before in let q = w.before.before in let e = q.before.before in let a = e.before in let f = found a.before.before in
+    meets_refuse _ _ _ _ (rw (f.finds, sym a.is-immediate.ensures ∙ not-false _ e.if1.false, rw q.queue-at.ensures.0 at (sym w.is-full.ensures ∙ c.if2.true)))
 
 word-requires : tie.Need-word-requires
 word-requires c κs = search rules
 
 add-newest-requires : tie.Need-add-newest-requires
-add-newest-requires c κs = let x = c.before.before.before in let w = x.before in let q = w.before.before in let g = q.before.before.before.before.before.before in
+add-newest-requires c κs = let x = c.before.before.before in let w = x.before in let q = w.before.before in let g = q.before.before.before.before.before in
     let s = g.before.before.before.before.before.before.before.before in
     ((omega (arith, q.queue-at.ensures.1), omega arith), (subst (Ring s.args.p.now) (sym q.queue-at.ensures.0) (named_queue s.args.p.now _ _ s.requires (found g)).ring, sym w.is-full.ensures ∙ x.if2.false))
 
@@ -87,8 +88,9 @@ same-length-8 : tie.Need-same-length-8
 same-length-8 c = search rules
 
 returns-4 : tie.Need-returns-4
-returns-4 c = let t = c.before.before in let o = t.before in let x = o.before.before.before in let w = x.before in let q = w.before.before in let e = q.before.before in let a = e.before in let f = found a.before.before.before in
-    rw (t.add-newest.ensures, o.word.ensures, q.queue-at.ensures.0) (meets_succeed _ _ _ (send_is_done _ _ _ f.finds (sym a.is-usable.ensures ∙ not-false _ e.if1.false) (rw q.queue-at.ensures.0 at (sym w.is-full.ensures ∙ x.if2.false))))
+unfolding send outcome
+returns-4 c = let t = c.before.before in let o = t.before in let x = o.before.before.before in let w = x.before in let q = w.before.before in let e = q.before.before in let a = e.before in let f = found a.before.before in
+    rw (t.add-newest.ensures, o.word.ensures, q.queue-at.ensures.0) (meets_succeed _ _ _ (rw (f.finds, sym a.is-immediate.ensures ∙ not-false _ e.if1.false, rw q.queue-at.ensures.0 at (sym w.is-full.ensures ∙ x.if2.false))))
 
 pub send-spec : {M : Type 1} → statement M
 send-spec =
@@ -100,7 +102,7 @@ send-spec =
     same_length
     same-length-2
     returns
-    is-usable-requires
+    is-immediate-requires
     same-length-3
     same-length-4
     returns-2

@@ -65,7 +65,7 @@ word-requires-2 c κs = search rules
 end-tree-requires : tie.Need-end-tree-requires
 end-tree-requires c κs = let k = c.before.before.before.before in
     let s = k.before.before.before.before.before.before.before.before.before.before in
-    (s.requires, (job_found _ _ _ (job-is-at k)).within)
+    ((sound_tables s.args.p.now s.requires, (job_found _ _ _ (job-is-at k)).within), areas_within s.args.p.now s.requires)
 
 clear-requires : tie.Need-clear-requires
 clear-requires c κs = search rules

@@ -1,6 +1,5 @@
 use Rattle.sound.specs.Test.{half_fine}
 use Rattle.sound_whole.proofs.Room.{tables_within, area_within}
-use Rattle.sound_entries.proofs.Notes.{bare_at_first}
 use mathlib.Core.Path.{sym, ◌∙◌}
 use borrow.Author.Rules.{rules}
 use Rattle.sound.proofs.is_half_fine.Statement.{statement}
@@ -14,7 +13,7 @@ use Rattle.sound.proofs.area_of.Reads as area-of-reads
 use Rattle.sound_walks.proofs.walk_blocks.Reads as walk-blocks-reads
 
 walk-entries-requires : tie.Need-walk-entries-requires
-walk-entries-requires c κs = (tables_within _ c.before.before.requires, bare_at_first _)
+walk-entries-requires c κs = tables_within _ c.before.before.requires
 
 enum-known-walked : tie.Need-enum-known-walked
 enum-known-walked c = search rules
@@ -24,7 +23,7 @@ enum_told c = search rules
 
 returns : tie.Need-returns
 unfolding half_fine
-returns c = rw (sym c.before.before.walk-entries.ensures.0 ∙ c.enum_told.given.1)
+returns c = rw (sym c.before.before.walk-entries.ensures ∙ c.enum_told.given.1)
 
 area-of-requires : tie.Need-area-of-requires
 area-of-requires c κs = search rules
@@ -39,7 +38,7 @@ walk-blocks-requires : tie.Need-walk-blocks-requires
 walk-blocks-requires c κs =
     let u = c.before in
     let s = u.before.before.before.before.before.before.before.before.before in
-    (tables_within _ s.requires, (rw u.area-upto.ensures.0 (area_within _ s.requires u.before.before.area_of.result), (u.area-upto.ensures.1, u.before.before.before.before.before.before.walk-entries.ensures.1)))
+    (tables_within _ s.requires, (rw u.area-upto.ensures.0 (area_within _ s.requires u.before.before.area_of.result), u.area-upto.ensures.1))
 
 enum-known-found : tie.Need-enum-known-found
 enum-known-found c = search rules
@@ -53,7 +52,7 @@ returns-2 c =
     let w = c.before.before in
     let u = w.before.before in
     let k = u.before.before.before.before in
-    rw (sym k.before.before.walk-entries.ensures.0 ∙ k.walked.given.1, sym (rw (u.area-upto.ensures.0, u.before.area-from.ensures.0, u.before.before.area_of.ensures) at w.walk-blocks.ensures) ∙ c.enum-told2.given.1)
+    rw (sym k.before.before.walk-entries.ensures ∙ k.walked.given.1, sym (rw (u.area-upto.ensures.0, u.before.area-from.ensures.0, u.before.before.area_of.ensures) at w.walk-blocks.ensures) ∙ c.enum-told2.given.1)
 
 returns-3 : tie.Need-returns-3
 unfolding half_fine
@@ -62,7 +61,7 @@ returns-3 c =
     let w = f.before.before in
     let u = w.before.before in
     let k = u.before.before.before.before in
-    rw (sym k.before.before.walk-entries.ensures.0 ∙ k.walked.given.1, sym (rw (u.area-upto.ensures.0, u.before.area-from.ensures.0, u.before.before.area_of.ensures) at w.walk-blocks.ensures) ∙ f.found.given.1)
+    rw (sym k.before.before.walk-entries.ensures ∙ k.walked.given.1, sym (rw (u.area-upto.ensures.0, u.before.area-from.ensures.0, u.before.before.area_of.ensures) at w.walk-blocks.ensures) ∙ f.found.given.1)
 
 pub is-half-fine-spec : {M : Type 1} → statement M
 is-half-fine-spec =

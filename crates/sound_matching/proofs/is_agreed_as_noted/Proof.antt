@@ -1,13 +1,11 @@
 use Rattle.sound_matching.specs.Agreed.{agreed_as_noted}
-use Rattle.sound_matching.proofs.Agreeing.{noted_alike}
-use mathlib.Core.Path.{sym}
-use borrow.Author.Tests.{le-ltb}
+use borrow.Author.Tests.{lt-ltb, le-ltb}
 use borrow.Author.Rules.{rules}
 use Rattle.sound_matching.proofs.is_agreed_as_noted.Statement.{statement}
 use Rattle.sound_matching.proofs.is_agreed_as_noted.Tie as tie
 use Rattle.sound_matching.proofs.is_agreed_as_noted.Reads as reads
 use Rattle.sound_matching.proofs.is_agreed_as_noted.Lts as lts
-use Rattle.sound_matching.proofs.is_told_alike.Reads as is-told-alike-reads
+use Rattle.sound_matching.proofs.is_agreeing.Reads as is-agreeing-reads
 use Rattle.sound_matching.proofs.wide.Reads as wide-reads
 use Rattle.picture.proofs.positions_of.Reads as positions-of-reads
 
@@ -26,15 +24,15 @@ returns c =
     let w = c.before in
     rw (le-ltb _ _ (rw (w.positions-of.ensures, w.before.wide.ensures) at c.if1.true))
 
-is-told-alike-requires : tie.Need-is-told-alike-requires
-is-told-alike-requires c κs = search rules
+is-agreeing-requires : tie.Need-is-agreeing-requires
+is-agreeing-requires c κs = search rules
 
 returns-2 : tie.Need-returns-2
+unfolding agreed_as_noted
 returns-2 c =
     let e = c.before in
     let w = e.before in
-    let s = w.before.before.before.before in
-    rw (c.is-told-alike.ensures, w.before.wide.ensures) (sym (noted_alike _ _ _ _ s.requires.1.1.1 (rw (w.positions-of.ensures, w.before.wide.ensures) at e.if1.false)))
+    rw (lt-ltb _ _ (rw (w.positions-of.ensures, w.before.wide.ensures) at e.if1.false), c.is-agreeing.ensures, w.before.wide.ensures)
 
 pub is-agreed-as-noted-spec : {M : Type 1} → statement M
 is-agreed-as-noted-spec =
@@ -44,5 +42,5 @@ is-agreed-as-noted-spec =
     wide-requires
     positions-of-requires
     returns
-    is-told-alike-requires
+    is-agreeing-requires
     returns-2)

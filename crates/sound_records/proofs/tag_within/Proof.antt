@@ -1,5 +1,5 @@
 use Rattle.sound_records.specs.Rules.{tag_within}
-use Rattle.sound_records.proofs.Used.{ordinary_used}
+use Rattle.sound_records.proofs.Used.{has_block_used}
 use borrow.Author.Rules.{rules}
 use Rattle.sound_records.proofs.tag_within.Statement.{statement}
 use Rattle.sound_records.proofs.tag_within.Tie as tie
@@ -16,7 +16,7 @@ first-of-requires c κs = search rules
 
 returns : tie.Need-returns
 unfolding tag_within
-returns c = rw (c.first_of.ensures, c.before.tag_at.ensures, ordinary_used _ _ _ c.before.before.before.requires.1.1)
+returns c = rw (c.first_of.ensures, c.before.tag_at.ensures, has_block_used _ _ _ c.before.before.before.requires.1.1)
 
 pub tag-within-spec : {M : Type 1} → statement M
 tag-within-spec = tie.close (tie.spec tag-at-requires first-of-requires returns)

@@ -47,7 +47,7 @@ is-free-fine-requires c κs =
     let a = b.before.before in
     let s = a.before.before.before in
     let h = header_within s.args.p.now s.args.e s.args.i (sym a.before.length_whole.ensures ∙ not-false _ a.if1.false) (sym b.before.is_Within.ensures ∙ not-false _ b.if2.false) in
-    (omega (arith, s.requires.1.1.0), (s.requires.1.0, s.requires.1.1.1.0))
+    (omega (arith, s.requires.1.1.0), (s.requires.1.0, s.requires.1.1.1))
 
 returns-3 : tie.Need-returns-3
 unfolding block_fine
@@ -63,7 +63,7 @@ is-held-fine-requires c κs =
     let a = b.before.before in
     let s = a.before.before.before in
     let h = header_within s.args.p.now s.args.e s.args.i (sym a.before.length_whole.ensures ∙ not-false _ a.if1.false) (sym b.before.is_Within.ensures ∙ not-false _ b.if2.false) in
-    (s.requires.0, (omega (arith, s.requires.1.1.0), (omega (arith, s.requires.1.0, s.requires.1.1.1.0), s.requires.1.1.1.1)))
+    (s.requires.0, (omega (arith, s.requires.1.1.0), omega (arith, s.requires.1.0, s.requires.1.1.1)))
 
 returns-4 : tie.Need-returns-4
 unfolding block_fine

@@ -1,7 +1,6 @@
 use Rattle.sound_walks.specs.Walks.{held_fine}
 use Rattle.sound_matching.proofs.Agreeing.{noted_agreed}
 use borrow.Author.Tests.{eq-eqb, ne_eqb, not-true, not-false}
-use native.Mathlib.Omega.{arith}
 use mathlib.Core.Path.{sym, ◌∙◌}
 use borrow.Author.Rules.{rules}
 use Rattle.sound_walks.proofs.is_heap_fine.Statement.{statement}
@@ -65,9 +64,7 @@ returns-4 c =
     rw (eq-eqb _ _ (rw s.before.word_at.ensures at s.if1.false), ne_eqb _ _ (rw k.before.word-at2.ensures at k.if2.false), eq-eqb _ _ (rw k.before.word-at2.ensures at q.if3.false), sym c.before.queue-room.ensures ∙ not-true _ c.if4.true)
 
 is-agreed-as-noted-requires : tie.Need-is-agreed-as-noted-requires
-is-agreed-as-noted-requires c κs =
-    let s = c.before.before.before.before.before.before.before.before in
-    (s.requires.0, (omega (arith, s.requires.1.0), s.requires.1.1))
+is-agreed-as-noted-requires c κs = search rules
 
 returns-5 : tie.Need-returns-5
 unfolding held_fine

@@ -10,13 +10,13 @@ enum_told : tie.Need-enum-told
 enum_told c = search rules
 
 is-transient-fine-requires : tie.Need-is-transient-fine-requires
-is-transient-fine-requires c κs = let s = c.before.before.before in (s.requires.0, (s.requires.1.0, (s.requires.1.1.0, rw c.enum_told.given.1 at s.requires.1.1.1)))
+is-transient-fine-requires c κs = search rules
 
 enum-told-2 : tie.Need-enum-told-2
 enum-told-2 c = search rules
 
 is-heap-fine-requires : tie.Need-is-heap-fine-requires
-is-heap-fine-requires c κs = let s = c.before.before.before in (s.requires.0, (s.requires.1.0, (s.requires.1.1.0, rw c.enum-told2.given.1 at s.requires.1.1.1)))
+is-heap-fine-requires c κs = search rules
 
 returns : tie.Need-returns
 returns c = rw (c.is-transient-fine.ensures, c.before.enum_told.given.1)

@@ -67,7 +67,7 @@ add-i c =
     let a = l.before.before.before.before.args in
     let z = fine_next a.p.now a.t a.e l.before.loop.i c.word-at2.result c.word-at2.ensures (sym d.before.is-block-fine.ensures ∙ not-false _ d.if1.false) in
     let n = next_le a.p.now l.before.loop.i a.e in
-    omega (arith, l.before.before.before.before.requires.1.1.0)
+    omega (arith, l.before.before.before.before.requires.1.1)
 
 loop-less : tie.Need-loop-smaller invariant-loop decreases-loop
 loop-less c =

@@ -10,7 +10,7 @@ use Rattle.traps.proofs.trap_two.Statement.{statement}
 use Rattle.traps.proofs.trap_two.Tie as tie
 use Rattle.traps.proofs.trap_two.Reads as reads
 use Rattle.traps.proofs.trap_two.Lts as lts
-use Rattle.closing.proofs.close_channel.Reads as close-channel-reads
+use Rattle.channels.proofs.close_channel.Reads as close-channel-reads
 use Rattle.opening.proofs.open_channel.Reads as open-channel-reads
 
 open-channel-requires : tie.Need-open-channel-requires

@@ -1,2 +1,0 @@
--- Laws of the definitions of crate emptying.
-pub mod Tables

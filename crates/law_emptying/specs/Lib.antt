@@ -1,1 +1,0 @@
--- The tables without entries, longword by longword, stand in proofs/: this crate has laws only.

@@ -1,1 +1,0 @@
-// Laws of taking entries out of the tables, longword by longword.

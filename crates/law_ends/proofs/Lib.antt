@@ -1,3 +1,0 @@
--- Laws of queues and their ends.
-pub mod Ends
-pub mod OneToOne

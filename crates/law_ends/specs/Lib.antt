@@ -1,2 +1,0 @@
--- The statements about queues and their ends.
-pub mod Ends

@@ -1,1 +1,0 @@
-// What queues and their ends promise over histories: laws only.

@@ -1,1 +1,0 @@
--- What parting leaves of a sound picture stands in proofs/: this crate has laws only.

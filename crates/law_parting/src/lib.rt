@@ -1,1 +1,0 @@
-// Laws of parting: ends of queues go, and a sound picture stays sound.

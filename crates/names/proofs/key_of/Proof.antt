@@ -1,0 +1,40 @@
+use mathlib.Core.Path.{sym, ap}
+use Rattle.names.specs.Names.{key_of}
+use borrow.Author.Rules.{rules}
+use Rattle.names.proofs.key_of.Statement.{statement}
+use Rattle.names.proofs.key_of.Tie as tie
+use Rattle.names.proofs.key_of.Reads as reads
+use Rattle.names.proofs.key_of.Lts as lts
+
+enum_told : tie.Need-enum-told
+enum_told c = search rules
+
+enum-told-2 : tie.Need-enum-told-2
+enum-told-2 c = search rules
+
+enum-told-3 : tie.Need-enum-told-3
+enum-told-3 c = search rules
+
+enum-told-4 : tie.Need-enum-told-4
+enum-told-4 c = search rules
+
+returns : tie.Need-returns
+unfolding key_of
+returns c = rw c.enum_told.given.1
+
+returns-2 : tie.Need-returns-2
+unfolding key_of
+returns-2 c = rw c.enum-told2.given.1
+
+returns-3 : tie.Need-returns-3
+unfolding key_of
+returns-3 c = rw c.enum-told3.given.1
+
+returns-4 : tie.Need-returns-4
+unfolding key_of
+returns-4 c = rw c.enum-told4.given.1
+
+pub key-of-spec : {M : Type 1} → statement M
+key-of-spec =
+    tie.close
+    (tie.spec enum_told enum-told-2 enum-told-3 enum-told-4 returns returns-2 returns-3 returns-4)

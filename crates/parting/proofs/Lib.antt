@@ -1,2 +1,0 @@
--- Laws of the definitions of specs/.
-pub mod Parted
