@@ -1,4 +1,6 @@
 // Trap 1 $2: asking about a job of a tree.
+#![tactic(auto)]
+
 ghost use Rattle.std.specs.Prelude.{◌≡◌, true, ◌*◌, ◌≤◌, ◌<◌};
 ghost use Rattle.picture.specs.Layout.{positions, greatest_size};
 ghost use Rattle.picture.specs.Records.{base, priority};

@@ -1,4 +1,6 @@
 // The walk over the blocks of an area of a lent picture.
+#![tactic(auto)]
+
 ghost use Rattle.std.specs.Prelude.{◌≡◌, ◌+◌, ◌-◌, ◌≤◌, ◌<◌};
 ghost use Rattle.blocks.specs.Walk.{good, next};
 ghost use Rattle.blocks.specs.Header.{rounded, kind_of};

@@ -1,4 +1,6 @@
 // What the calls share: the registers, the number that is meant, and writes to a record.
+#![tactic(auto)]
+
 ghost use Rattle.std.specs.Prelude.{◌≡◌, ◌<◌};
 ghost use Rattle.picture.specs.Layout.{positions, width};
 ghost use Rattle.picture.specs.Records.{with_field, with_timeout};

@@ -1,4 +1,6 @@
 // The calls on open channels: closing, asking, fetching and sending.
+#![tactic(auto)]
+
 ghost use Rattle.std.specs.Prelude.{◌≡◌, true, ◌<◌, ◌≤◌, length};
 ghost use Rattle.picture.specs.Layout.{positions, heap_base, greatest_size, upto};
 ghost use Rattle.picture.specs.declared.Area.TheVariants.{Heap};

@@ -1,4 +1,6 @@
 // The call that creates a job.
+#![tactic(auto)]
+
 ghost use Rattle.std.specs.Prelude.{◌≡◌, true, ◌<◌};
 ghost use Rattle.picture.specs.Layout.{greatest_size};
 ghost use Rattle.sound.specs.Sound.{sound};
@@ -15,7 +17,7 @@ use words::{put, word};
 const LEAST_DATA: u32 = 4;
 
 // Whose a new job is.
-#[derive(Drop)]
+#[derive(Clone, Copy)]
 pub enum OwnerFound {
     Of(u32),
     Dead,

@@ -1,4 +1,6 @@
 // What the calls $8 to $B do to a job's record, and what they answer.
+#![tactic(auto)]
+
 ghost use Rattle.std.specs.Prelude.{◌≡◌, ◌<◌};
 ghost use Rattle.picture.specs.Layout.{positions};
 ghost use Rattle.picture.specs.Numbers.{tag_weight};

@@ -1,4 +1,6 @@
 // Taking the jobs of a tree and their channels out of the tables; a set holds the positions of the tree.
+#![tactic(auto)]
+
 ghost use Rattle.std.specs.Prelude.{◌≡◌, ◌<◌, ◌≤◌, length};
 ghost use Rattle.picture.specs.Layout.{positions, heap_base};
 ghost use Rattle.picture.specs.declared.Table.TheVariants.{Jobs, Channels};

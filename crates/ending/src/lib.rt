@@ -1,4 +1,6 @@
 // Trap 1 $4 and $5: ending a job and all its descendants, with their blocks and channels.
+#![tactic(auto)]
+
 ghost use Rattle.std.specs.Prelude.{◌≡◌, true, ◌≤◌, ◌<◌, length};
 ghost use Rattle.picture.specs.Layout.{positions, heap_base, upto, greatest_size};
 ghost use Rattle.picture.specs.declared.Area.TheVariants.{Heap, Transient};

@@ -1,4 +1,6 @@
 // A new entry of a table of a lent picture.
+#![tactic(auto)]
+
 ghost use Rattle.std.specs.Prelude.{◌≡◌, true, ◌<◌, ◌≤◌, length};
 ghost use Rattle.picture.specs.Layout.{positions, heap_base, greatest_tag};
 ghost use Rattle.picture.specs.Records.{all_zero};

@@ -1,4 +1,6 @@
 // The text of an error: a part of one of two lent texts.
+#![tactic(auto)]
+
 ghost use Rattle.std.specs.Prelude.{◌≡◌, ◌<◌};
 ghost use Rattle.errors.specs.Text.{Lies, Answer, string_at, nth_at, spot_of, error_key};
 
@@ -6,14 +8,14 @@ ghost use Rattle.errors.specs.Text.{Lies, Answer, string_at, nth_at, spot_of, er
 const SYSTEM_STRINGS: usize = 21;
 
 // A string in a text: where its characters start, and how many there are.
-#[derive(Drop)]
+#[derive(Clone, Copy)]
 pub enum Place {
     At(usize, usize),
     Cut,
 }
 
 // Where an error's text stands.
-#[derive(Drop)]
+#[derive(Clone, Copy)]
 pub enum Spot {
     System(usize, usize),
     Driver(usize, usize),

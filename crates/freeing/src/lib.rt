@@ -1,5 +1,7 @@
 // Giving blocks of an area of a lent picture back: one sweep frees those that go and joins free neighbours.
 // A block goes if it is in use and is the one at `block`, or its owner's position is in `set`.
+#![tactic(auto)]
+
 ghost use Rattle.std.specs.Prelude.{◌≡◌, ◌<◌, ◌≤◌};
 ghost use Rattle.picture.specs.Layout.{greatest_size};
 ghost use Rattle.freeing.specs.Sweep.{named, goes, freed, absorbed, joined, run, swept};

@@ -1,4 +1,6 @@
 // A fresh picture.
+#![tactic(auto)]
+
 ghost use Rattle.std.specs.Prelude.{◌≡◌, ◌+◌, ◌≤◌, ◌<◌, length};
 ghost use Rattle.picture.specs.Layout.{heap_base};
 ghost use Rattle.fresh.specs.Fresh.{fresh, fresh_key, fresh_picture};

@@ -1,4 +1,6 @@
 // Writing the header of a block.
+#![tactic(auto)]
+
 ghost use Rattle.std.specs.Prelude.{◌≡◌};
 ghost use Rattle.headers.specs.Header.{header};
 

@@ -1,4 +1,6 @@
 // Calls that read who is current and that change a job's turn: $0, $8 to $B.
+#![tactic(auto)]
+
 ghost use Rattle.calls.specs.Outcome.{Meets};
 ghost use Rattle.calls.specs.Call.{outcome};
 ghost use Rattle.jobs.specs.Calls.{information, suspend, release, activate, set_priority};

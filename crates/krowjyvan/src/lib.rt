@@ -1,5 +1,7 @@
 // The manager's public face for a hub that isn't in Rattle: the functions that include/krowjyvan.h declares.
 // A lent slice is a pointer and a length there; nothing is asked of lengths or contents, and nothing is kept between calls.
+#![tactic(auto)]
+
 ghost use Rattle.std.specs.Prelude.{◌≡◌, ◌*◌, ◌≤◌, ◌<◌, length};
 ghost use Rattle.std.proofs.lemmas.List.Edits.{sets};
 ghost use Rattle.calls.specs.Outcome.{Meets};

@@ -1,1 +1,3 @@
 // To whom a new job belongs, over whole histories: laws only.
+#![tactic(auto)]
+

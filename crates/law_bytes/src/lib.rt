@@ -1,1 +1,3 @@
 // The order of bytes over whole histories: laws only.
+#![tactic(auto)]
+

@@ -1,1 +1,3 @@
 // Each key only for its cause: laws only.
+#![tactic(auto)]
+

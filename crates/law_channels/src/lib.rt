@@ -1,1 +1,3 @@
 // What opening and closing a channel keep: laws only.
+#![tactic(auto)]
+

@@ -1,1 +1,3 @@
 // What creating a job keeps and refuses: laws only.
+#![tactic(auto)]
+

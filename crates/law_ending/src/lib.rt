@@ -1,1 +1,3 @@
 // Laws of ending a tree: what is taken, what stays, and that a sound picture stays sound.
+#![tactic(auto)]
+

@@ -1,1 +1,3 @@
 // What a new entry of a table keeps: laws only.
+#![tactic(auto)]
+

@@ -1,1 +1,3 @@
 // A fresh picture is sound: laws only.
+#![tactic(auto)]
+

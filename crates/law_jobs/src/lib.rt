@@ -1,1 +1,3 @@
 // The calls of jobs keep a sound picture sound, and tags rise: laws only.
+#![tactic(auto)]
+

@@ -1,1 +1,3 @@
 // What is written is read back, and lines worked out: laws only.
+#![tactic(auto)]
+

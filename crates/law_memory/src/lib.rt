@@ -1,1 +1,3 @@
 // What the calls on memory keep and refuse: laws only.
+#![tactic(auto)]
+

@@ -1,1 +1,3 @@
 // What opening a channel keeps: laws only.
+#![tactic(auto)]
+

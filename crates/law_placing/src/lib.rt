@@ -1,1 +1,3 @@
 // What placing a block leaves: laws only.
+#![tactic(auto)]
+

@@ -1,1 +1,3 @@
 // Where a new job and a new channel stand: laws only.
+#![tactic(auto)]
+

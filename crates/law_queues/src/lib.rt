@@ -1,1 +1,3 @@
 // What the calls on queues keep: laws only.
+#![tactic(auto)]
+

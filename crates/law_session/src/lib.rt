@@ -1,1 +1,3 @@
 // The whole case of the session, and a session whose input comes in pieces: laws only.
+#![tactic(auto)]
+

@@ -1,1 +1,3 @@
 // What stays sound while only the turns of jobs change: laws only.
+#![tactic(auto)]
+

@@ -1,1 +1,3 @@
 // What pick and tick keep: laws only.
+#![tactic(auto)]
+

@@ -1,4 +1,6 @@
 // The manager's whole public face: one door for every trap call, a fresh picture, the pick, the tick, the report of a tree, and the text of an error.
+#![tactic(auto)]
+
 use turns::Picked;
 use words::word;
 

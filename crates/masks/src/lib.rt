@@ -1,4 +1,6 @@
 // Sets of positions, by value: bit k is set where position k is a member.
+#![tactic(auto)]
+
 ghost use Rattle.std.specs.Prelude.{◌≡◌, cond, ◌<◌, ◌≤◌};
 ghost use Rattle.words.specs.Bits.{bit};
 ghost use Rattle.masks.specs.Masks.{set_width, with_bit, without_bit, without, lowest_clear};

@@ -1,4 +1,6 @@
 // The calls on memory: the longest free room, and taking and giving back heap space.
+#![tactic(auto)]
+
 ghost use Rattle.std.specs.Prelude.{◌≡◌, true, ◌-◌, ◌<◌};
 ghost use Rattle.picture.specs.Layout.{greatest_size};
 ghost use Rattle.sound.specs.Sound.{sound};

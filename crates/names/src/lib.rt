@@ -1,10 +1,12 @@
 // The reader of pipe names.
+#![tactic(auto)]
+
 ghost use Rattle.std.specs.Prelude.{◌≡◌, ◌≤◌, drop};
 ghost use Rattle.sound_areas.specs.Rules.{longest_queue};
 ghost use Rattle.names.specs.Names.{key_of, good, number_in, byte, letter, pipe, digit, numbered, named};
 
 // PIPE_n with its n; a name that isn't PIPE; PIPE_ with no good number; bare PIPE.
-#[derive(Drop)]
+#[derive(Clone, Copy)]
 pub enum Name {
     Pipe(u32),
     Foreign,

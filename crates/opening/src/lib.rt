@@ -1,4 +1,6 @@
 // The call that opens a channel.
+#![tactic(auto)]
+
 ghost use Rattle.std.specs.Prelude.{◌≡◌, true, ◌<◌, ◌≤◌, length};
 ghost use Rattle.picture.specs.Layout.{positions, heap_base, greatest_tag, greatest_size};
 ghost use Rattle.picture.specs.Records.{all_zero};

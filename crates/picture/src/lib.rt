@@ -1,4 +1,6 @@
 // The memory picture: where things stand in it, records, and numbers that name a job or a channel.
+#![tactic(auto)]
+
 ghost use Rattle.std.specs.Prelude.{◌≡◌, ◌+◌, ◌*◌, ◌/◌, ◌%◌, ◌^◌, ◌<◌, ◌≤◌, length};
 ghost use Rattle.words.specs.Words.{word};
 ghost use Rattle.picture.specs.Layout.{positions, width, from, upto, last_word, mask_word, heap_base, greatest_tag};
@@ -100,35 +102,35 @@ pub const BAD_PARAMETER: i32 = -15;
 pub const NOT_SOUND: i32 = -16;
 
 // The two tables of records.
-#[derive(Drop)]
+#[derive(Clone, Copy)]
 pub enum Table {
     Jobs,
     Channels,
 }
 
 // The two areas of blocks.
-#[derive(Drop)]
+#[derive(Clone, Copy)]
 pub enum Area {
     Heap,
     Transient,
 }
 
 // A job's number and a channel's number are different kinds: one never stands for the other.
-#[derive(Drop)]
+#[derive(Clone, Copy)]
 pub struct JobNumber(pub u32);
 
-#[derive(Drop)]
+#[derive(Clone, Copy)]
 pub struct ChannelNumber(pub u32);
 
 // The position of the job that a number names.
-#[derive(Drop)]
+#[derive(Clone, Copy)]
 pub enum JobFound {
     At(usize),
     Dead,
 }
 
 // The position of the channel that a number names.
-#[derive(Drop)]
+#[derive(Clone, Copy)]
 pub enum ChannelFound {
     At(usize),
     Dead,

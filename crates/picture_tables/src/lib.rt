@@ -1,4 +1,6 @@
 // The records of a picture that has its tables: what `picture` says of any picture, with no index tested.
+#![tactic(auto)]
+
 ghost use Rattle.std.specs.Prelude.{◌≡◌, ◌<◌, ◌≤◌, length};
 ghost use Rattle.words.specs.Words.{put};
 ghost use Rattle.picture.specs.Layout.{positions, width, heap_base};

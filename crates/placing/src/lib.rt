@@ -1,4 +1,6 @@
 // Placing a block in an area of a lent picture, from longword base up to e.
+#![tactic(auto)]
+
 ghost use Rattle.std.specs.Prelude.{◌≡◌, ◌<◌, ◌≤◌, length};
 ghost use Rattle.placing.specs.Place.{fits, chosen, split, placed, longer, longest, Placing};
 
@@ -7,7 +9,7 @@ use headers::put_header;
 use words::{clear, word};
 
 // Where a block was placed.
-#[derive(Drop)]
+#[derive(Clone, Copy)]
 pub enum Placement {
     At(usize),
     Nowhere,

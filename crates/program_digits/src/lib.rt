@@ -1,10 +1,12 @@
 // Hexadecimal as it is read from a lent text: digits, numbers, words and bytes.
+#![tactic(auto)]
+
 ghost use Rattle.std.specs.Prelude.{◌≡◌, true, ◌+◌, ◌-◌, ◌*◌, ◌^◌, ◌≤◌, ◌<◌, length, set};
 ghost use Rattle.std.proofs.lemmas.List.Edits.{sets};
 ghost use Rattle.program_digits.specs.Digits.{digit, digits, number, numbers, read, told, worth};
 
 // What stands in a text: a number, or nothing of the kind.
-#[derive(Drop)]
+#[derive(Clone, Copy)]
 pub enum Read {
     Number(u32),
     Nothing,

@@ -1,4 +1,6 @@
 // Lines of trials as they are read: a call on a picture, the report of a tree, or a question for an error's text.
+#![tactic(auto)]
+
 mod asking;
 mod trials;
 
@@ -9,21 +11,21 @@ pub use trials::{read_name, read_trial};
 pub const LONGEST_LINE: usize = 300_000;
 
 // How many numbers or bytes a field holds.
-#[derive(Drop)]
+#[derive(Clone, Copy)]
 pub enum Count {
     Of(usize),
     Bad,
 }
 
 // What a line asks: the text of a key, with how many bytes of the system's text and of the driver's, or nothing of the kind.
-#[derive(Drop)]
+#[derive(Clone, Copy)]
 pub enum Asked {
     Text(u32, usize, usize),
     Bad,
 }
 
 // A call: a trap by its number, a pick, a tick, or a fresh picture of a size and a heap.
-#[derive(Drop)]
+#[derive(Clone, Copy)]
 pub enum Call {
     Trap(u32),
     Pick,
@@ -32,7 +34,7 @@ pub enum Call {
 }
 
 // What a call field asks for: a call, the report of a tree, or nothing of the kind.
-#[derive(Drop)]
+#[derive(Clone, Copy)]
 pub enum Wanted {
     Call(Call),
     Report,
@@ -41,7 +43,7 @@ pub enum Wanted {
 
 // A trial: its call, how many characters the call field has, and how many registers and longwords there are;
 // or a report: its top's number, how many lines are lent, and how many longwords there are.
-#[derive(Drop)]
+#[derive(Clone, Copy)]
 pub enum Trial {
     Good(Call, usize, usize, usize),
     Report(u32, usize, usize),

@@ -1,4 +1,6 @@
 // A session's lines: what a line says, and where the lines of a text end.
+#![tactic(auto)]
+
 mod feeds;
 mod frames;
 
@@ -6,7 +8,7 @@ pub use feeds::{keep, line_end};
 pub use frames::read_line;
 
 // What a line of a session asks for: nothing good, a pick, a tick, the report of the tree of a job by its number, or a trap by its number, with how many bytes of name.
-#[derive(Drop)]
+#[derive(Clone, Copy)]
 pub enum Line {
     Bad,
     Pick,

@@ -1,18 +1,20 @@
 // Input and output in large pieces, and what is said where a read or a write fails.
+#![tactic(auto)]
+
 ghost use Rattle.std.specs.Prelude.{◌<◌};
 ghost use Rattle.program_pieces.specs.Read.{Within};
 
 use libc::{STDERR_FILENO, STDIN_FILENO, STDOUT_FILENO};
 
 // What a read gave: so many characters, none at the end of input, or nothing, since it failed.
-#[derive(Drop)]
+#[derive(Clone, Copy)]
 pub enum Input {
     Characters(usize),
     Failed,
 }
 
 // How many characters of the line at hand are kept behind a piece of input, or that its answers could not be written.
-#[derive(Drop)]
+#[derive(Clone, Copy)]
 pub enum Kept {
     Characters(usize),
     Unwritten,

@@ -1,4 +1,6 @@
 // What a line of a session comes to.
+#![tactic(auto)]
+
 ghost use Rattle.std.specs.Prelude.{◌≡◌, List, ℕ, length};
 ghost use Rattle.program_lines.specs.Frames.{bad, picks, ticks, frame};
 ghost use Rattle.program_replies.specs.Reply.{reply, Replied, Comes};
@@ -6,7 +8,7 @@ ghost use Rattle.program_replies.specs.Reply.{reply, Replied, Comes};
 use program_lines::Line;
 
 // What a line comes to: so many longwords of an answer of one line, or the report of a tree.
-#[derive(Drop)]
+#[derive(Clone, Copy)]
 pub enum Answer {
     Longwords(usize),
     Report(u32),

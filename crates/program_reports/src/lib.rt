@@ -1,4 +1,6 @@
 // The report of a tree as a session writes it: a line for each member, or the key alone.
+#![tactic(auto)]
+
 ghost use Rattle.std.specs.Prelude.{◌≡◌, ◌++◌, map, [], ◌∷◌, ◌+◌, ◌*◌, ◌≤◌, length, take};
 ghost use Rattle.words.specs.Signed.{bits};
 ghost use Rattle.program_writing.specs.Texts.{answers_text};

@@ -1,4 +1,6 @@
 // Trials: one call on any picture and registers a line, and what it answers and changes; or one report of a tree, and the lines that were lent to it.
+#![tactic(auto)]
+
 mod report;
 mod reporting;
 mod room;
@@ -10,7 +12,7 @@ pub use room::{answer_room, line_room};
 pub use running::answer_all;
 
 // What a call answered: its key's bits, and the number where it was a pick.
-#[derive(Drop)]
+#[derive(Clone, Copy)]
 pub struct Answer {
     pub key: u32,
     pub number: u32,

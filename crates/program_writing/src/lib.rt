@@ -1,4 +1,6 @@
 // Hexadecimal as it is written into a lent text: characters, numbers, words and answers.
+#![tactic(auto)]
+
 ghost use Rattle.std.specs.Prelude.{◌≡◌, ◌+◌, ◌*◌, ◌≤◌, ◌<◌, leb, length, set};
 ghost use Rattle.program_writing.specs.Texts.{capital, past, written};
 ghost use Rattle.program_writing.specs.Texts.{written_words, with_number, with_words, with_answer};

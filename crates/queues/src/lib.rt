@@ -1,4 +1,6 @@
 // The ring of bytes in the room of a queue's block, the block at longword i.
+#![tactic(auto)]
+
 ghost use Rattle.std.specs.Prelude.{◌≡◌, true, false, ◌+◌, ◌<◌, ◌≤◌};
 ghost use Rattle.blocks.specs.Header.{queue_oldest};
 ghost use Rattle.queues.specs.Bytes.{weight, byte_at, with_byte_at};

@@ -1,4 +1,6 @@
 // The lines of a report of a tree: where it begins, and one line with the number of the next member.
+#![tactic(auto)]
+
 ghost use Rattle.std.specs.Prelude.{◌≡◌, ◌≤◌, ◌<◌};
 ghost use Rattle.picture.specs.Numbers.{tag_weight};
 ghost use Rattle.report_lines.specs.Line.{depth, line};
@@ -10,7 +12,7 @@ use picture::{JOBS, JobFound, JobNumber, job_at};
 use words::word;
 
 // A job of the tree: its number, its owner's, its depth below the top, its priority, and whether it is suspended.
-#[derive(Drop)]
+#[derive(Clone, Copy)]
 pub struct JobLine {
     pub number: u32,
     pub owner: u32,
@@ -20,7 +22,7 @@ pub struct JobLine {
 }
 
 // Where a report begins: its key, how many lines it has, the positions of the members and that of the top.
-#[derive(Drop)]
+#[derive(Clone, Copy)]
 pub struct Beginning {
     pub key: i32,
     pub count: usize,
@@ -29,7 +31,7 @@ pub struct Beginning {
 }
 
 // A line, and the number of the member behind it.
-#[derive(Drop)]
+#[derive(Clone, Copy)]
 pub struct Step {
     pub line: JobLine,
     pub next: u32,

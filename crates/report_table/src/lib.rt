@@ -1,4 +1,6 @@
 // The report of a tree, in a table of job lines that the caller lends.
+#![tactic(auto)]
+
 ghost use Rattle.std.specs.Prelude.{◌≡◌, ◌≤◌, length};
 ghost use Rattle.std.proofs.lemmas.List.Edits.{sets};
 ghost use Rattle.report_lines.specs.Report.{report_lines as reportLines};
@@ -8,7 +10,7 @@ ghost use Rattle.report_table.specs.Longwords.{line_longwords};
 use report_lines::JobLine;
 
 // What a report answers: its key, and how many lines were written.
-#[derive(Drop)]
+#[derive(Clone, Copy)]
 pub struct Report {
     pub key: i32,
     pub count: usize,
@@ -34,7 +36,7 @@ pub fn report_tree(p: &[u32], top: u32, table: &mut [JobLine]) -> Report
 }
 
 // A report, and the lines of a table of 64 as they stand then.
-#[derive(Drop)]
+#[derive(Clone, Copy)]
 pub struct Lent {
     pub report: Report,
     pub lines: [JobLine; 64],

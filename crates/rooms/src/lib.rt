@@ -1,4 +1,6 @@
 // Room in one of the two areas of a lent picture.
+#![tactic(auto)]
+
 ghost use Rattle.std.specs.Prelude.{◌≡◌, ◌<◌, ◌≤◌, length};
 ghost use Rattle.picture.specs.Layout.{from, upto, greatest_size};
 ghost use Rattle.placing.specs.Place.{Placing};

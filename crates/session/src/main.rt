@@ -1,4 +1,6 @@
 // The session program: answers each line of standard input, from a fresh picture on.
+#![tactic(auto)]
+
 
 // The session's picture: its longwords, and those of its heap.
 const SIZE: u32 = 1024;

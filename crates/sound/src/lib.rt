@@ -1,4 +1,6 @@
 // The test for soundness: one pass over each table and one walk of each area.
+#![tactic(auto)]
+
 ghost use Rattle.std.specs.Prelude.{◌≡◌, true};
 ghost use Rattle.sound_matching.specs.Match.{area_of};
 ghost use Rattle.sound_whole.specs.Whole.{whole_fine};

@@ -1,4 +1,6 @@
 // Rules of soundness for the blocks of the two areas, a function each.
+#![tactic(auto)]
+
 ghost use Rattle.std.specs.Prelude.{◌≡◌, ◌+◌, ◌<◌, ◌≤◌, length};
 ghost use Rattle.blocks.specs.Header.{start_field};
 ghost use Rattle.sound_areas.specs.Rules.{tiles, untouched, length_whole};

@@ -1,4 +1,6 @@
 // The test of a table, record by record in one pass, of a picture that has its tables.
+#![tactic(auto)]
+
 ghost use Rattle.std.specs.Prelude.{◌≡◌, true, ◌<◌, ◌≤◌, length};
 ghost use Rattle.picture.specs.Layout.{positions, heap_base};
 ghost use Rattle.picture.specs.Records.{used};

@@ -1,4 +1,6 @@
 // The rules of soundness for the records of jobs, a function each, of a picture that has its tables.
+#![tactic(auto)]
+
 ghost use Rattle.std.specs.Prelude.{◌≡◌, true, ◌<◌, ◌≤◌, length};
 ghost use Rattle.picture.specs.Layout.{positions, heap_base};
 ghost use Rattle.picture.specs.Records.{all_zero, used};

@@ -1,4 +1,6 @@
 // The matching of live jobs and channels with their blocks, in a picture that has its tables.
+#![tactic(auto)]
+
 ghost use Rattle.std.specs.Prelude.{◌≡◌, ◌+◌, ◌≤◌, ◌<◌, length};
 ghost use Rattle.words.specs.Each.{one};
 ghost use Rattle.picture.specs.Layout.{positions, heap_base};
@@ -10,7 +12,7 @@ use picture::Table;
 use picture_tables::field_of;
 
 // How a walk over a table or an area ends: at something that breaks a rule, or with what it counted.
-#[derive(Drop)]
+#[derive(Clone, Copy)]
 pub enum Walked {
     Broken,
     Counted(usize),

@@ -1,4 +1,6 @@
 // The rules of soundness for the records of either table and of channels, a function each, of a picture that has its tables.
+#![tactic(auto)]
+
 ghost use Rattle.std.specs.Prelude.{◌≡◌, true, ◌<◌, ◌≤◌, length};
 ghost use Rattle.words.specs.Each.{every};
 ghost use Rattle.picture.specs.Layout.{positions, heap_base};

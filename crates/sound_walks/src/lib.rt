@@ -1,4 +1,6 @@
 // The test of an area, block by block in one walk, of a picture that has its tables.
+#![tactic(auto)]
+
 ghost use Rattle.std.specs.Prelude.{◌≡◌, ◌+◌, ◌<◌, ◌≤◌, length};
 ghost use Rattle.picture.specs.Layout.{heap_base};
 ghost use Rattle.picture.specs.declared.Table.TheVariants.{Jobs, Channels};

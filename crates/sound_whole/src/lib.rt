@@ -1,4 +1,6 @@
 // The rules of the picture as a whole: its size, its heap, its last tags and who is current.
+#![tactic(auto)]
+
 ghost use Rattle.std.specs.Prelude.{◌≡◌, ◌<◌};
 ghost use Rattle.sound_whole.specs.Whole.{size_within, heap_within, size_stated, seven_zero, heap_stated};
 ghost use Rattle.sound_whole.specs.Whole.{last_within, current_ready, whole_fine};

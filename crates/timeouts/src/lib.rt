@@ -1,9 +1,11 @@
 // Timeouts in registers: the low word, read as a signed half.
+#![tactic(auto)]
+
 ghost use Rattle.std.specs.Prelude.{◌≡◌};
 ghost use Rattle.timeouts.specs.Timeout.{timeout_in, value};
 
 // What a low word says: 0, 1 to 32,767 frames, -1 for without end, or anything else.
-#[derive(Drop)]
+#[derive(Clone, Copy)]
 pub enum Timeout {
     Zero,
     Frames(i32),

@@ -1,4 +1,6 @@
 // The calls of the three traps, each by all 32 bits of D0, on a sound picture.
+#![tactic(auto)]
+
 ghost use Rattle.std.specs.Prelude.{◌≡◌, true};
 ghost use Rattle.calls.specs.Outcome.{Meets};
 ghost use Rattle.calls.specs.Call.{outcome};

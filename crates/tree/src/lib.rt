@@ -1,4 +1,6 @@
 // The tree of a job: the job itself and each job whose owner is in the tree, as a set of positions.
+#![tactic(auto)]
+
 ghost use Rattle.std.specs.Prelude.{◌≡◌, ◌<◌};
 ghost use Rattle.picture.specs.Layout.{positions};
 ghost use Rattle.picture.specs.Numbers.{tag_weight};

@@ -1,4 +1,6 @@
 // The trial program: answers each line of standard input.
+#![tactic(auto)]
+
 fn main() {
     let mut chunk = io::large_buffer();
     let mut line = program_trial::line_room();

@@ -1,4 +1,6 @@
 // Turns: the pick, which gives one job its turn, and the tick of a frame. Both take any contents that have their tables.
+#![tactic(auto)]
+
 ghost use Rattle.std.specs.Prelude.{◌≡◌, ◌+◌, ◌<◌, ◌≤◌, min, length};
 ghost use Rattle.picture.specs.Layout.{positions};
 ghost use Rattle.picture.specs.Records.{accumulated_field};
@@ -15,7 +17,7 @@ use picture_tables::{field_of, is_ready, put_field, timeout_of};
 use words::{bits_of, put, signed_of};
 
 // What a pick answers: the number of the job picked, and its key to deliver.
-#[derive(Drop)]
+#[derive(Clone, Copy)]
 pub struct Picked {
     pub number: u32,
     pub key: i32,

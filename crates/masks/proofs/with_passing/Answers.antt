@@ -7,26 +7,13 @@ use native.Mathlib.Nat.{zero-mul}
 use Rattle.masks.specs.Masks.{with_bit}
 use Rattle.masks.proofs.Masks.{one_shifted, with_bit_is}
 use borrow.Author.Rules.{rules}
-use Rattle.masks.proofs.with_passing.Statement.{statement}
-use Rattle.masks.proofs.with_passing.Tie as tie
-use Rattle.masks.proofs.with_passing.Reads as reads
-use Rattle.masks.proofs.with_passing.Lts as lts
-
--- src/lib.rt:37:13
-cast-result : tie.Need-overflow-cast-result
-cast-result c = search rules
-
--- src/lib.rt:37:12
-shl-result : tie.Need-overflow-shl-result
-shl-result c = search rules
+use Rattle.masks.proofs.with_passing.Goals as goal
 
 -- src/lib.rt:33:1
-returns : tie.Need-returns
-returns c = go c.args.passes
+pub returns : goal.returns
+returns c =
+    go c.args.passes
   where
     go : (b : Bool) → bit_or c.args.set (bool_byte b * 2 ^ c.args.k % 18446744073709551616) ≡ cond b (with_bit c.args.set c.args.k) c.args.set
     go true = rw (one_shifted c.args.k c.requires) (with_bit_is _ _)
     go false = rw (zero-mul (2 ^ c.args.k)) (or_zero_r c.args.set)
-
-pub with-passing-spec : {M : Type 1} → statement M
-with-passing-spec = tie.close (tie.spec cast-result shl-result returns)

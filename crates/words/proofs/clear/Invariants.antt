@@ -1,0 +1,14 @@
+use Rattle.words.proofs.Words.{clear_end, clear_more}
+use Rattle.words.specs.Words.{clear}
+use lib.ListN.{length, length-set}
+use mathlib.Core.Path.{◌≡◌, refl, sym, ap, ◌∙◌}
+use Prim.Native.Nat.{◌-◌, ◌≤◌}
+use borrow.Author.Rules.{rules}
+use native.Mathlib.Omega.{arith}
+use Rattle.words.proofs.clear.Given as goal
+
+abbrev pub invariant-loop-i : goal.invariant-loop-i
+invariant-loop-i l = (length l.p ≡ length l.initial.p) × (clear (l.upto - l.from) l.initial.p l.from ≡ clear (l.upto - l.i) l.p l.i)
+
+abbrev pub decreases-loop-i : goal.decreases-loop-i
+decreases-loop-i l = l.upto - l.i
