@@ -1,0 +1,7 @@
+use Rattle.picture.specs.Records.{active}
+use borrow.Author.Rules.{rules}
+use Rattle.picture.proofs.is_active.Goals as goal
+
+pub returns : goal.returns
+unfolding active
+returns c = rw c.field_of.ensures
