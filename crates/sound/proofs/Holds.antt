@@ -90,6 +90,7 @@ listed Rule.wait_allowed = search lists depth 64
 listed Rule.idle_zero = search lists depth 64
 
 listed_holds : (p : List ℕ) (r : Rule) (l : List Rule) → Listed r l → all_hold p l ≡ true → Holds p r
+listed_holds p r [] m h = elim m [ ]
 listed_holds p r (s ∷ l) here h = passes_is p (test r) (both (passes p (test r)) (all_hold p l) h).0
 listed_holds p r (s ∷ l) (there i) h = listed_holds p r l i (both (passes p (test s)) (all_hold p l) h).1
 

@@ -1,0 +1,7 @@
+use Rattle.sound_whole.specs.Whole.{size_stated}
+use borrow.Author.Rules.{rules}
+use Rattle.sound_whole.proofs.size_stated.Goals as goal
+
+pub returns : goal.returns
+unfolding size_stated
+returns c = rw (c.size_within.ensures, c.word.ensures)
