@@ -101,7 +101,7 @@ parted_by (suc k) p x e i h m = ⊎_elim
           parts = λ q s. starts_more q x e l ∙ ap (λ (y : List ℕ). x ∷ y) (rw (next_same p q x e (s x (omega (arith, a.0)))) (d.parts q s));
           first = inr (inl refl);
           below = λ j o. ⊎_elim (λ (z : j ≡ x). omega (arith, a.0)) (λ y. d.below j y) o;
-          onward = λ j o. ⊎_elim (λ (z : j ≡ x). rw z (⊎_elim inl (λ w. inr (inr w)) d.first)) (λ y. ⊎_elim inl (λ w. inr (inr w)) (d.onward j y)) o;
+          onward = λ j o. ⊎_elim (λ (z : j ≡ x). subst (λ (v : ℕ). (next p v e ≡ i) ⊎ In (next p v e) (x ∷ d.lower)) (sym z) (⊎_elim inl (λ w. inr (inr w)) d.first)) (λ y. ⊎_elim inl (λ w. inr (inr w)) (d.onward j y)) o;
         }
 
 pub parted_at : (p : List ℕ) (base e i : ℕ) → In i (starts p base e) → Parted p base e i

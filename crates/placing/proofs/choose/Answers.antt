@@ -1,0 +1,36 @@
+use Rattle.placing.proofs.Walk.{first_end, first_here, first_more}
+use Rattle.placing.specs.Place.{fits, first, chosen}
+use Rattle.blocks.proofs.Walk.{next_falls}
+use Rattle.blocks.specs.Walk.{starts}
+use Prim.Native.Nat.{◌-◌}
+use mathlib.Core.Logic.{⊎_elim}
+use mathlib.Core.Path.{◌≡◌, refl, sym, ◌∙◌}
+use borrow.Author.Rules.{rules}
+use native.Mathlib.Omega.{arith}
+use Rattle.placing.proofs.choose.Goals as goal
+
+pub loop-i-init : goal.loop-i-init
+loop-i-init c = refl
+
+pub loop-i-smaller : goal.loop-i-smaller
+loop-i-smaller c = next_falls _ _ _ _ c.next_block-i.ensures c.loop-i-test.true
+
+pub loop-i-preserved : goal.loop-i-preserved
+loop-i-preserved c =
+    c.loop-i.invariant
+    ∙ first_more _ _ _ _ c.loop-i-test.true (sym c.is_fit.ensures ∙ c.if-is_fit.false)
+    ∙ rw c.next_block-i.ensures
+
+pub returns-then-i-e : goal.returns-then-i-e
+unfolding chosen
+returns-then-i-e c =
+    sym
+    (c.loop-i.invariant
+    ∙ ⊎_elim
+    (λ v. absurd (omega arith))
+    (λ v. first_here _ _ _ _ v.0.taken (sym v.1.ensures ∙ v.2.taken))
+    c.loop-i-test.branch)
+
+pub returns : goal.returns
+unfolding chosen
+returns c = sym (c.loop-i.invariant ∙ first_end _ _ _ _ c.if-i-e.false)

@@ -1,0 +1,7 @@
+use Rattle.placing.specs.Place.{fits}
+use borrow.Author.Rules.{rules}
+use Rattle.placing.proofs.is_fit.Goals as goal
+
+pub returns : goal.returns
+unfolding fits
+returns c = rw (c.word-2.ensures, c.word.ensures)

@@ -1,0 +1,27 @@
+use native.Mathlib.Omega.{arith}
+use Rattle.placing.proofs.Chosen.{chosen_is_free_and_enough}
+use Rattle.placing.specs.Place.{answer, after, chosen}
+use borrow.Author.Tests.{lt-ltb, le-ltb}
+use Prim.Native.Nat.{◌<◌}
+use borrow.Author.Rules.{rules}
+use Rattle.placing.proofs.place.Goals as goal
+
+pub overflow_cast-n : goal.overflow_cast-n
+overflow_cast-n c =
+    let l : chosen s.before.args.p.now s.before.args.base s.before.args.e s.before.args.n < s.before.args.e = rw (← c.choose-at.ensures) c.if-at-e.true in
+    let h = (chosen_is_free_and_enough _ _ _ _ l).enough in
+    omega (arith, c.slice-known.given (chosen s.before.args.p.now s.before.args.base s.before.args.e s.before.args.n))
+
+pub returns-then-at-e : goal.returns-then-at-e
+unfolding answer after
+returns-then-at-e c =
+    let q = c.choose-at.ensures in
+    let h = lt-ltb _ _ c.if-at-e.true in
+    record { answers = simp (← q, h); leaves = rw c.place_at.ensures (simp (← q, h)) }
+
+pub returns : goal.returns
+unfolding answer after
+returns c =
+    let q = c.choose-at.ensures in
+    let h = le-ltb _ _ c.if-at-e.false in
+    record { answers = simp (← q, h); leaves = simp (← q, h) }
