@@ -8,6 +8,7 @@ use mathlib.Core.Path.{◌≡◌, refl, sym, ◌∙◌}
 use borrow.Author.Rules.{rules}
 use native.Mathlib.Omega.{arith}
 use Rattle.placing.proofs.choose.Goals as goal
+use Rattle.placing.proofs.choose.Goals.{else-loop-i-test, then-loop-i-test+then-is_fit}
 
 pub loop-i-init : goal.loop-i-init
 loop-i-init c = refl
@@ -26,10 +27,11 @@ unfolding chosen
 returns-then-i-e c =
     sym
     (c.loop-i.invariant
-    ∙ ⊎_elim
-    (λ v. absurd (omega arith))
-    (λ v. first_here _ _ _ _ v.0.taken (sym v.1.ensures ∙ v.2.taken))
-    c.loop-i-test.branch)
+    ∙
+    elim c.loop-i-test.branch [
+      else-loop-i-test w ↦ absurd (omega arith)
+    | then-loop-i-test+then-is_fit w ↦ first_here _ _ _ _ w.loop-i-test.true (sym w.is_fit.ensures ∙ w.if-is_fit.true)
+    ])
 
 pub returns : goal.returns
 unfolding chosen

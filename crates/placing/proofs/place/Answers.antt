@@ -8,9 +8,9 @@ use Rattle.placing.proofs.place.Goals as goal
 
 pub overflow_cast-n : goal.overflow_cast-n
 overflow_cast-n c =
-    let l : chosen s.before.args.p.now s.before.args.base s.before.args.e s.before.args.n < s.before.args.e = rw (← c.choose-at.ensures) c.if-at-e.true in
+    let l : chosen c.args.p.now c.args.base c.args.e c.args.n < c.args.e = rw (← c.choose-at.ensures) c.if-at-e.true in
     let h = (chosen_is_free_and_enough _ _ _ _ l).enough in
-    omega (arith, c.slice-known.given (chosen s.before.args.p.now s.before.args.base s.before.args.e s.before.args.n))
+    omega (arith, c.slice_known-1.given (chosen c.args.p.now c.args.base c.args.e c.args.n))
 
 pub returns-then-at-e : goal.returns-then-at-e
 unfolding answer after
