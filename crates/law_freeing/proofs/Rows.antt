@@ -31,11 +31,11 @@ pub row_le : {p : List ℕ} {e i : ℕ} → Row p e i → i ≤ e
 row_le (Row.done q) = omega arith
 row_le (Row.more {i = i} B S) = let h = row_le S in omega arith
 
-pub spaced_row : {p : List ℕ} {g f : Bool} {e i : ℕ} → Spaced p g e f i → Row p e i
+pub spaced_row : {p : List ℕ} {g : Bool} {e : ℕ} {f : Bool} {i : ℕ} → Spaced p g e f i → Row p e i
 spaced_row (Spaced.done a r) = Row.done r
 spaced_row (Spaced.more B A S) = Row.more B (spaced_row S)
 
-pub spaced_le : {p : List ℕ} {g f : Bool} {e i : ℕ} → Spaced p g e f i → i ≤ e
+pub spaced_le : {p : List ℕ} {g : Bool} {e : ℕ} {f : Bool} {i : ℕ} → Spaced p g e f i → i ≤ e
 spaced_le S = row_le (spaced_row S)
 
 -- a block of a row: it is good, and the walk goes on behind it
@@ -75,12 +75,12 @@ row_tiled {p} {e} (Row.more {i = i} B S) j m = ⊎_elim
     (rw (row_starts B (row_le S)) at m)
 
 -- the block after a free one
-head_used : {p : List ℕ} {g f : Bool} {e i : ℕ} → Spaced p g e f i → f ≡ true → i < e → free p i ≡ false
+head_used : {p : List ℕ} {g : Bool} {e : ℕ} {f : Bool} {i : ℕ} → Spaced p g e f i → f ≡ true → i < e → free p i ≡ false
 head_used (Spaced.done a r) z l = absurd (omega arith)
 head_used (Spaced.more {f = true} B A S) z l = A
 head_used (Spaced.more {f = false} B A S) z l = absurd (false_true z)
 
-pub spaced_apart : {p : List ℕ} {g f : Bool} {e i : ℕ} → Spaced p g e f i → Apart p i e
+pub spaced_apart : {p : List ℕ} {g : Bool} {e : ℕ} {f : Bool} {i : ℕ} → Spaced p g e f i → Apart p i e
 spaced_apart {p} {e = e} (Spaced.done {i = i} a r) j m z l = absurd (subst (In j) (starts_end p i e (omega arith)) m)
 spaced_apart {p} {g} {e = e} (Spaced.more {i = i} B A S) j m z l = ⊎_elim
     (λ (y : j ≡ i). first j y z l)
