@@ -1,0 +1,17 @@
+use Rattle.names.proofs.Digits.{digits_more, digits_not, worth_more, digits_end, worth_end, digit_is, digits_fit, five_fit, too_few, too_many, other_byte, too_small, too_great, just_right}
+use Rattle.names.specs.Names.{digit, worth}
+use Rattle.words.specs.Each.{all}
+use native.Mathlib.Numerals.{add-one}
+use borrow.Author.Tests.{not-true, not-false}
+use lib.ListN.{length, drop}
+use mathlib.Core.Path.{◌≡◌, refl, sym, ap, ◌∙◌}
+use Prim.Native.Nat.{suc, ◌+◌, ◌-◌, ◌*◌, ◌^◌, ◌≤◌, ◌<◌}
+use borrow.Author.Rules.{rules}
+use native.Mathlib.Omega.{arith}
+use Rattle.names.proofs.read_number.Given as goal
+
+abbrev pub invariant-loop-i : goal.invariant-loop-i
+invariant-loop-i l = (5 ≤ l.i) × (l.i ≤ length l.name) × (l.n < 10 ^ (l.i - 5)) × (all digit (drop 5 l.name) ≡ all digit (drop l.i l.name)) × (worth 0 (drop 5 l.name) ≡ worth l.n (drop l.i l.name))
+
+abbrev pub decreases-loop-i : goal.decreases-loop-i
+decreases-loop-i l = length l.name - l.i

@@ -1,0 +1,7 @@
+use Rattle.queues.specs.Ring.{full}
+use borrow.Author.Rules.{rules}
+use Rattle.queues.proofs.is_full.Goals as goal
+
+pub returns : goal.returns
+unfolding full
+returns c = rw (c.word-2.ensures, c.word.ensures)

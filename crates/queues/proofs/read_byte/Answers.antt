@@ -1,0 +1,8 @@
+use Rattle.queues.proofs.Bytes.{weight_some}
+use Rattle.queues.specs.Bytes.{byte_at, weight}
+use borrow.Author.Rules.{rules}
+use Rattle.queues.proofs.read_byte.Goals as goal
+
+pub returns : goal.returns
+unfolding byte_at
+returns c = rw (c.weight_of.ensures, c.word.ensures)

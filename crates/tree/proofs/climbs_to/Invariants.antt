@@ -1,0 +1,16 @@
+use Rattle.picture.specs.Numbers.{tag_weight}
+use mathlib.Core.Path.{◌≡◌, refl, sym, ◌∙◌}
+use Prim.Native.Nat.{◌<◌}
+use Rattle.picture.specs.declared.Table.TheVariants.{Jobs}
+use Rattle.picture.specs.Layout.{positions}
+use Rattle.tree.specs.Tree.{climbs}
+use Rattle.tree.proofs.Climb.{climbs_here, climbs_ends, climbs_stops, climbs_up}
+use borrow.Author.Rules.{rules}
+use native.Mathlib.Omega.{arith}
+use Rattle.tree.proofs.climbs_to.Given as goal
+
+abbrev pub invariant-loop-n : goal.invariant-loop-n
+invariant-loop-n l = (l.j < tag_weight) × (climbs (positions Jobs) l.p l.t l.k ≡ climbs l.n l.p l.t l.j)
+
+abbrev pub decreases-loop-n : goal.decreases-loop-n
+decreases-loop-n l = l.n
