@@ -6,7 +6,7 @@ use Rattle.queues.proofs.add_newest.Goals as goal
 
 pub write_byte-requires : goal.write_byte-requires
 write_byte-requires c =
-    λ _. let R = c.requires.1.0 in
+    let R = c.requires.1.0 in
     let m = R.most in
     let h = R.held in
     let x = index_below c.args.p.now c.args.i R _ h in

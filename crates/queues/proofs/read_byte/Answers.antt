@@ -3,6 +3,9 @@ use Rattle.queues.specs.Bytes.{byte_at, weight}
 use borrow.Author.Rules.{rules}
 use Rattle.queues.proofs.read_byte.Goals as goal
 
+pub nonzero_div-result : goal.nonzero_div-result
+nonzero_div-result c = rw c.weight_of.ensures (weight_some _)
+
 pub returns : goal.returns
 unfolding byte_at
 returns c = rw (c.weight_of.ensures, c.word.ensures)

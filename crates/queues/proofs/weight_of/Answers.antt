@@ -19,4 +19,4 @@ returns-in-2 c = rw c.in-2.is
 
 pub returns-in_default : goal.returns-in_default
 unfolding weight
-returns-in_default c = let r = c.in_default.rest in let z : c.args.j % 4 ≡ 3 = omega (arith, r.1, r.0.1, r.0.0.1) in rw z
+returns-in_default c = let z : c.args.j % 4 ≡ 3 = omega arith in rw z

@@ -7,6 +7,9 @@ use Rattle.queues.specs.Bytes.{with_byte_at, weight}
 use borrow.Author.Rules.{rules}
 use Rattle.queues.proofs.write_byte.Goals as goal
 
+pub nonzero_div-w : goal.nonzero_div-w
+nonzero_div-w c = rw c.weight_of-v.ensures ((let z : Fits c.word-w.result c.args.b (weight c.args.j) = byte_fits _ _ _ _ (let l : c.word-w.result < 4294967296 = omega arith in l) c.requires.1 (quarter _) in z)).some
+
 pub overflow_mul-w : goal.overflow_mul-w
 overflow_mul-w c = rw c.weight_of-v.ensures (let f = ((let z : Fits c.word-w.result c.args.b (weight c.args.j) = byte_fits _ _ _ _ (let l : c.word-w.result < 4294967296 = omega arith in l) c.requires.1 (quarter _) in z)).part in omega arith)
 
