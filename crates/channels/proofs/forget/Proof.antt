@@ -46,8 +46,8 @@ same_length c = search rules
 returns : tie.Need-returns
 unfolding forgotten
 returns c = let d = c.before.before in let e = d.before.before.before.before in let w = e.before in let s = w.before.before in let b = s.before in
-    let z : s.slot_of.result + w.width_of_lem.result - s.slot_of.result ≡ w.width_of_lem.result = omega arith in
-    rw (d.put-members.ensures, e.clear.ensures, z, w.width_of_lem.ensures, s.slot_of.ensures.0, b.without-member.ensures, b.before.members-at.ensures.0)
+    let z : s.slot_of.result + w.width_of.result - s.slot_of.result ≡ w.width_of.result = omega arith in
+    rw (d.put-members.ensures, e.clear.ensures, z, w.width_of.ensures, s.slot_of.ensures.0, b.without-member.ensures, b.before.members-at.ensures.0)
 
 pub forget-spec : {M : Type 1} → statement M
 forget-spec =

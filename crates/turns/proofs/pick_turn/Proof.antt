@@ -59,7 +59,7 @@ returns-2 c = let last = c.before.before in
     let key = gave.before.before in
     let number = key.before.before.before in
     let chosen = number.before.before.before in
-    let k = key.Signed-of in
+    let k = key.signed_of in
     let d = job_picked chosen.before.before.before.args.p.now chosen.chosen_job.result chosen.chosen_job.ensures.0 number.before.before.if1.false in
     (rw (last.put2.ensures, cleared.put-field.ensures, gave.give-gains.ensures, number.field_of.ensures) d.0, rw (number.field_of.ensures, to_z-of_z w32 k.result (record { sfits = k.type-inv }) ∙ k.ensures, key.before.field-of2.ensures) d.1)
 

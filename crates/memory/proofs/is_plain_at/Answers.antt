@@ -1,0 +1,7 @@
+use Rattle.memory.specs.Memory.{plain_room}
+use borrow.Author.Rules.{rules}
+use Rattle.memory.proofs.is_plain_at.Goals as goal
+
+pub returns : goal.returns
+unfolding plain_room
+returns c = rw c.word.ensures

@@ -1,0 +1,7 @@
+use Rattle.opening.specs.Effects.{channel_registers}
+use borrow.Author.Rules.{rules}
+use Rattle.opening.proofs.answer_channel.Goals as goal
+
+pub returns : goal.returns
+unfolding channel_registers
+returns c = rw (c.put-2.ensures, c.put.ensures)
