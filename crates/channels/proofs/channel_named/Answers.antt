@@ -1,0 +1,5 @@
+use borrow.Author.Rules.{rules}
+use Rattle.channels.proofs.channel_named.Goals as goal
+
+pub returns : goal.returns
+returns c = rw (c.channel_at.ensures, c.word.ensures)
