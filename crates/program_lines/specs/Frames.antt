@@ -1,5 +1,5 @@
 -- The session program's lines (rules 114 and 115): one frame a line, without its line feed.
-use Rattle.std.specs.Prelude.{◌≡◌, List, [], ◌∷◌, ℕ, ◌-◌, ◌/◌, ◌%◌, ltb, eqb, length}
+use Rattle.std.specs.Prelude.{◌≡◌, List, [], ℕ, ◌-◌, ◌/◌, ◌%◌, ltb, eqb, length}
 use Rattle.std.proofs.lemmas.List.Edits.{sets}
 use Rattle.program_digits.specs.Digits.{pick, digits, number, numbers}
 use Rattle.program_lines.specs.declared.Line.{Line}

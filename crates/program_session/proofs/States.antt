@@ -1,5 +1,5 @@
 -- Laws of the state after an input: input comes in pieces, and states that agree in what is kept give the same. Assumes nothing.
-use Rattle.std.proofs.Common.{◌≡◌, ℕ, suc, ◌+◌, ◌<◌, ◌≤◌, Bool, true, false, eqb, List, [], ◌∷◌, ◌++◌, length, take, sym, refl, ap, ◌∙◌, append_assoc, append-nil, arith, take-take}
+use Rattle.std.proofs.Common.{◌≡◌, ℕ, suc, ◌<◌, ◌≤◌, Bool, true, false, eqb, List, [], ◌∷◌, ◌++◌, length, take, sym, refl, ap, ◌∙◌, append_assoc, append-nil, arith, take-take}
 use lib.Seq.{append_snoc}
 use Rattle.program_digits.specs.Digits.{pick}
 use Rattle.program_writing.specs.Texts.{answers_text}
@@ -25,6 +25,7 @@ gives_append a (c ∷ s) t = rw (gives_append (step a c) s t, append_assoc)
 -- a piece up to its first line feed answers the line that it ends
 pub ends_line : (a : State) (s : List ℕ) → before_feed s < length s → after a (take (suc (before_feed s)) s) ≡ with_line (line_picture (a.line ++ take (before_feed s) s) a.picture) []
 unfolding after step before_feed
+ends_line a [] l = elim l [ ]
 ends_line a (c ∷ s) l = go (eqb c 10) l (λ b m. ends_line b s m)
   where
     n : ℕ
@@ -39,6 +40,7 @@ ends_line a (c ∷ s) l = go (eqb c 10) l (λ b m. ends_line b s m)
 
 pub ends_text : (a : State) (s : List ℕ) → before_feed s < length s → gives a (take (suc (before_feed s)) s) ≡ line_text (a.line ++ take (before_feed s) s) a.picture
 unfolding gives step step_text before_feed
+ends_text a [] l = elim l [ ]
 ends_text a (c ∷ s) l = go (eqb c 10) l (λ b m. ends_text b s m)
   where
     n : ℕ

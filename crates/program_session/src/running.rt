@@ -11,13 +11,13 @@ use program_replies::Answer;
 const LONGEST_ANSWER: usize = 41 * picture::JOBS;
 
 // Says that the input failed.
-fn say_unread() {
-    program_pieces::say_unread(b"session");
+fn say_unread(rt: &HostRuntime) {
+    program_pieces::say_unread(rt, b"session");
 }
 
 // Says that the output failed.
-fn say_unwritten() {
-    program_pieces::say_unwritten(b"session");
+fn say_unwritten(rt: &HostRuntime) {
+    program_pieces::say_unwritten(rt, b"session");
 }
 
 // Answers a line, behind what is used of the output's room, and answers how much is used then.
@@ -86,17 +86,18 @@ fn take_lines(p: &mut [u32], chunk: &[u8], kept: usize, line: &mut [u8], out: &m
 }
 
 // Writes out a piece: the text that a piece of input gives after the input before it. It is the next of the output behind the characters that are written already.
-fn write_piece(out: &[u8], used: usize, written: &mut u64) -> bool
+fn write_piece(rt: &HostRuntime, out: &[u8], used: usize, written: &mut u64) -> bool
     requires used_in_bounds { used ≤ length out.now }
     requires given { Given (take used out.now) written.old }
     ensures { written.new ≡ counted (written.old + used) }
 {
     *written = std::num::wrapping_add_u64(*written, used as u64);
-    program_pieces::write_out(out, used)
+    program_pieces::write_out(rt, out, used)
 }
 
 // Takes a chunk of the input, and writes out what it gives, in as many pieces as the output's room asks for.
 fn take_all(
+    rt: &HostRuntime,
     p: &mut [u32],
     chunk: &[u8],
     kept: usize,
@@ -113,7 +114,7 @@ fn take_all(
     let mut start = 0;
     while start < chunk.len() {
         let progress = take_lines(p, &chunk[start..], filled, line, out);
-        if !write_piece(out, progress.used, written) {
+        if !write_piece(rt, out, progress.used, written) {
             return Kept::Unwritten;
         }
         filled = progress.kept;
@@ -135,20 +136,33 @@ fn answer_last(p: &mut [u32], kept: usize, line: &[u8], out: &mut [u8]) -> usize
 }
 
 // The end of input: what it gives is written out.
-fn finish(p: &mut [u32], kept: usize, line: &[u8], out: &mut [u8], written: &mut u64)
+fn finish(
+    rt: &HostRuntime,
+    p: &mut [u32],
+    kept: usize,
+    line: &[u8],
+    out: &mut [u8],
+    written: &mut u64,
+)
     requires kept_in_bounds { kept ≤ length line.now }
     requires roomy { Roomy line.now out.old }
     requires known { Known p.old (take kept line.now) written.old }
     ensures { Reached p.new }
 {
     let used = answer_last(p, kept, line, out);
-    if !write_piece(out, used, written) {
-        say_unwritten();
+    if !write_piece(rt, out, used, written) {
+        say_unwritten(rt);
     }
 }
 
 // Answers each line of standard input, in the rooms that are lent. There are more turns than any run uses up.
-pub fn answer_all(p: &mut [u32], chunk: &mut [u8], line: &mut [u8], out: &mut [u8])
+pub fn answer_all(
+    rt: &HostRuntime,
+    p: &mut [u32],
+    chunk: &mut [u8],
+    line: &mut [u8],
+    out: &mut [u8],
+)
     requires p_value { p.old ≡ first_picture }
     requires roomy { Roomy line.old out.old }
     ensures { Reached p.new }
@@ -157,17 +171,17 @@ pub fn answer_all(p: &mut [u32], chunk: &mut [u8], line: &mut [u8], out: &mut [u
     let mut written = 0;
     let mut turns = u64::MAX;
     while 0 < turns {
-        let Input::Characters(got) = program_pieces::read_in(chunk) else {
-            say_unread();
+        let Input::Characters(got) = program_pieces::read_in(rt, chunk) else {
+            say_unread(rt);
             return;
         };
-        let Kept::Characters(filled) = take_all(p, &chunk[..got], kept, line, out, &mut written)
+        let Kept::Characters(filled) = take_all(rt, p, &chunk[..got], kept, line, out, &mut written)
         else {
-            say_unwritten();
+            say_unwritten(rt);
             return;
         };
         kept = filled;
         turns = program_pieces::turns_after(turns, got);
     }
-    finish(p, kept, line, out, &mut written);
+    finish(rt, p, kept, line, out, &mut written);
 }

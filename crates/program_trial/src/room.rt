@@ -21,6 +21,13 @@ pub fn picture_room() -> [u32; 16400]
     [0; 16400]
 }
 
+// Room for a name: more bytes than a call field may have.
+pub fn name_room() -> [u8; 4096]
+    ensures { 4096 ≡ length result }
+{
+    [0; 4096]
+}
+
 // Room for registers: twice as many as a call takes.
 pub fn registers_room() -> [u32; 16]
     ensures { 16 ≡ length result }

@@ -12,7 +12,7 @@ fn answer_of(key: i32) -> Answer {
 
 // Makes a call by its trap, with the name that stands in the call field.
 fn make_trap(p: &mut [u32], trap: u32, registers: &mut [u32], field: &[u8]) -> Answer {
-    let mut name = io::buffer();
+    let mut name = room::name_room();
     let count = program_fields::read_name(field, &mut name);
     answer_of(manager::call(p, trap, registers, &name[..count]))
 }
