@@ -1,5 +1,5 @@
 -- The fields of a line that asks for an error text, as they are read (rules 121 and 126).
-use Rattle.std.specs.Prelude.{◌≡◌, Bool, true, false, List, [], ◌∷◌, ℕ, suc, ◌/◌, ◌%◌, ltb, eqb, length, get_or}
+use Rattle.std.specs.Prelude.{◌≡◌, Bool, false, List, [], ◌∷◌, ℕ, suc, ◌/◌, ◌%◌, ltb, eqb, length, get_or}
 use Rattle.std.proofs.lemmas.List.Edits.{sets}
 use Rattle.program_digits.specs.declared.Read.{Read}
 use Rattle.program_digits.specs.declared.Read.TheVariants.{Number, Nothing}
