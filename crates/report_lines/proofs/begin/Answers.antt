@@ -14,9 +14,9 @@ returns-in_default c = where_dead _ _ _ _ _ _ _ (sym c.is_sound.ensures ∙ c.if
 pub returns-then-lent-count : goal.returns-then-lent-count
 returns-then-lent-count c =
     where_short _ _ _ _ _ _ _ (sym c.is_sound.ensures ∙ c.if-not-is_sound.false) _ (sym c.job_at.ensures ∙ c.in-At.is)
-    (rw (c.size_of.ensures, c.tree_of-members.ensures) at c.if-lent-count.true) c.refused-then-lent-count.ensures.0 c.refused-then-lent-count.ensures.1
+    (rw (c.size_of-count.ensures, c.tree_of-members.ensures) at c.if-lent-count.true) c.refused-then-lent-count.ensures.0 c.refused-then-lent-count.ensures.1
 
 pub returns : goal.returns
 returns c =
     where_told _ _ _ _ _ _ _ (sym c.is_sound.ensures ∙ c.if-not-is_sound.false) _ (sym c.job_at.ensures ∙ c.in-At.is)
-    (rw (c.size_of.ensures, c.tree_of-members.ensures) at c.if-lent-count.false) refl (c.size_of.ensures ∙ ap size c.tree_of-members.ensures) c.tree_of-members.ensures refl
+    (rw (c.size_of-count.ensures, c.tree_of-members.ensures) at c.if-lent-count.false) refl (c.size_of-count.ensures ∙ ap size c.tree_of-members.ensures) c.tree_of-members.ensures refl
