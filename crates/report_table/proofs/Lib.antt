@@ -1,2 +1,2 @@
--- What the proofs by hand share.
+-- What the proofs share.
 pub mod Cut

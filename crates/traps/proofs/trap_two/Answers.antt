@@ -1,0 +1,21 @@
+use Rattle.calls.specs.Call.{outcome}
+use Rattle.traps.specs.Traps.{trap_two}
+use Rattle.calls.proofs.Outcome.{meets_refuse}
+use borrow.Author.Tests.{ne_eqb}
+use mir.ValLaws.{to_z-of_z}
+use mir.Syntax.{w32}
+use mathlib.Core.Path.{refl, sym, ◌∙◌}
+use borrow.Author.Rules.{rules}
+use Rattle.traps.proofs.trap_two.Goals as goal
+
+pub returns-in-1 : goal.returns-in-1
+unfolding trap_two outcome
+returns-in-1 c = rw (c.in-1.is, to_z-of_z w32 c.open_channel.result (record { sfits = c.open_channel.type_inv })) c.open_channel.ensures
+
+pub returns-in-2 : goal.returns-in-2
+unfolding trap_two outcome
+returns-in-2 c = rw (c.in-2.is, to_z-of_z w32 c.close_channel.result (record { sfits = c.close_channel.type_inv })) c.close_channel.ensures
+
+pub returns-in_default : goal.returns-in_default
+unfolding trap_two outcome
+returns-in_default c = meets_refuse _ _ _ _ (rw (ne_eqb _ _ c.in_default.rest.0.1, ne_eqb _ _ c.in_default.rest.1))
