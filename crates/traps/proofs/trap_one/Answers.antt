@@ -6,6 +6,7 @@ use mir.ValLaws.{to_z-of_z}
 use mir.Syntax.{w32}
 use mathlib.Core.Path.{refl, sym, ◌∙◌}
 use borrow.Author.Rules.{rules}
+use native.Mathlib.Omega.{arith}
 use Rattle.traps.proofs.trap_one.Goals as goal
 
 pub returns-in-0 : goal.returns-in-0
@@ -58,4 +59,4 @@ returns-in-25 c = rw (c.in-25.is, to_z-of_z w32 c.give_back.result (record { sfi
 
 pub returns-in_default : goal.returns-in_default
 unfolding trap_one outcome
-returns-in_default c = meets_refuse _ _ _ _ (rw (ne_eqb _ _ c.in_default.rest.0.0.0.0.0.0.0.0.0.0.0.1, ne_eqb _ _ c.in_default.rest.0.0.0.0.0.0.0.0.0.0.1, ne_eqb _ _ c.in_default.rest.0.0.0.0.0.0.0.0.0.1, ne_eqb _ _ c.in_default.rest.0.0.0.0.0.0.0.0.1, ne_eqb _ _ c.in_default.rest.0.0.0.0.0.0.0.1, ne_eqb _ _ c.in_default.rest.0.0.0.0.0.0.1, ne_eqb _ _ c.in_default.rest.0.0.0.0.0.1, ne_eqb _ _ c.in_default.rest.0.0.0.0.1, ne_eqb _ _ c.in_default.rest.0.0.0.1, ne_eqb _ _ c.in_default.rest.0.0.1, ne_eqb _ _ c.in_default.rest.0.1, ne_eqb _ _ c.in_default.rest.1))
+returns-in_default c = meets_refuse _ _ _ _ (rw (ne_eqb c.args.code 0x0 (λ e. omega arith), ne_eqb c.args.code 0x1 (λ e. omega arith), ne_eqb c.args.code 0x2 (λ e. omega arith), ne_eqb c.args.code 0x4 (λ e. omega arith), ne_eqb c.args.code 0x5 (λ e. omega arith), ne_eqb c.args.code 0x6 (λ e. omega arith), ne_eqb c.args.code 0x8 (λ e. omega arith), ne_eqb c.args.code 0x9 (λ e. omega arith), ne_eqb c.args.code 0xA (λ e. omega arith), ne_eqb c.args.code 0xB (λ e. omega arith), ne_eqb c.args.code 0x18 (λ e. omega arith), ne_eqb c.args.code 0x19 (λ e. omega arith)))
