@@ -1,0 +1,8 @@
+use mir.ValLaws.{to_z-of_z}
+use mir.Syntax.{w32}
+use mathlib.Core.Path.{◌≡◌, sym, ◌∙◌, ap}
+use borrow.Author.Rules.{rules}
+use Rattle.manager.proofs.error_text.Goals as goal
+
+pub returns : goal.returns
+returns c = rw (to_z-of_z w32 c.args.key c.ranges.key) at c.error_text.ensures
