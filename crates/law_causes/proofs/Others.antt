@@ -24,7 +24,7 @@ use Rattle.errors.specs.declared.Spot.TheVariants.{Nowhere}
 use Rattle.turns.specs.Pick.{chosen_job, picked_number, picked_key}
 use Rattle.law_picks.specs.Stretch.{Chosen}
 use Rattle.law_picks.proofs.Rule.{NobodyReady, chosen_is_who_the_rule_picks}
-use Rattle.law_picks.proofs.Given.{pick-answers-the-number, pick-answers-nobody}
+use Rattle.law_picks.proofs.Given.{pick_answers_the_number, pick_answers_nobody}
 use Rattle.law_turns.proofs.Pick.{ready_used}
 use Rattle.manager.specs.Turn.{pick_answer, tick_key}
 use Rattle.law_causes.specs.Others.{KeyExactly, GoodSizes, FreshOnlyForItsCause, Whole, StringStands, first, next, HasText, system's, driver's, TextOnlyForItsCause, TurnKeys, TurnsOnlyForTheirCause}
@@ -65,11 +65,11 @@ fresh_only_for_its_cause p n h = exactly_by _ _ out_of_range (fresh_good (length
 -- a job that is picked has a number of its own, and where nobody is ready the key is 0
 refusal_is_none : (p : List ℕ) → sound p ≡ true → picked_number p ≡ nobody → picked_key p ≡ not_sound → ⊥
 refusal_is_none p h n k = ⊎_elim
-    (λ (x : (chosen_job p ≡ positions Jobs) × NobodyReady p (positions Jobs)). keys_differ done not_sound (λ z. omega arith) (sym (pick-answers-nobody p x.0).1 ∙ k))
+    (λ (x : (chosen_job p ≡ positions Jobs) × NobodyReady p (positions Jobs)). keys_differ done not_sound (λ z. omega arith) (sym (pick_answers_nobody p x.0).1 ∙ k))
     (λ (C : Chosen p (positions Jobs) (chosen_job p)).
     let S = view p h in
     let u = ready_used p S (chosen_job p) C.inside C.is_ready in
-    let e : position nobody ≡ chosen_job p = ap position (sym n ∙ pick-answers-the-number p C.inside) ∙ S.jobs.entries.place (chosen_job p) u in
+    let e : position nobody ≡ chosen_job p = ap position (sym n ∙ pick_answers_the_number p C.inside) ∙ S.jobs.entries.place (chosen_job p) u in
     let l = C.inside in
     absurd (omega arith))
     (chosen_is_who_the_rule_picks p)

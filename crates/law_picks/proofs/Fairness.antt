@@ -20,7 +20,7 @@ use Rattle.turns.specs.Pick.{chosen_job, accumulated_after, picked, picked_numbe
 use Rattle.law_picks.specs.Stretch.{Chosen, Orderly, Stands, Quiet, Stretch, over, pick, quiet, NoTurnLost}
 use Rattle.law_picks.proofs.Rule.{someone_is_chosen}
 use Rattle.turns.proofs.Pick.{picked_has_none, idle_keeps, ready_gains}
-use Rattle.law_picks.proofs.Given.{pick-answers-the-number}
+use Rattle.law_picks.proofs.Given.{pick_answers_the_number}
 use Rattle.law_picks.proofs.Kept.{pick_accumulates}
 use Rattle.law_picks.proofs.Quiet.{nothing_is_quiet, quiet_after_quiet}
 
@@ -52,7 +52,7 @@ module _ (n j g : ℕ) (jn : j < positions Jobs) where
 
     -- where the position is picked, the number is answered
     answers : j ≡ chosen_job p → n ≡ picked_number p
-    answers e = sym (pick-answers-the-number p who.inside ∙ ap (λ (k : ℕ). number p Jobs k) (sym e) ∙ s.names)
+    answers e = sym (pick_answers_the_number p who.inside ∙ ap (λ (k : ℕ). number p Jobs k) (sym e) ∙ s.names)
 
   -- a stretch is so many turns once it is quiet, and an answer is the job's where its position was picked
   abbrev Seen : List ℕ → List ℕ → Type 0
@@ -78,13 +78,13 @@ module _ (n j g : ℕ) (jn : j < positions Jobs) where
 later : {n j g : ℕ} {p numbers : List ℕ} (k : ℕ) → Stretch n j g p numbers → (q : List ℕ) × Stretch n j g q (drop k numbers)
 later {p = p} zero st = (p, st)
 later {p = p} (suc k) over = (p, over)
-later (suc k) (pick ok s rest) = later k rest
+later {n = n} {j = j} {g = g} (suc k) (pick {p = p} {numbers = numbers} ok s rest) = later {p = picked p} {numbers = numbers} k rest
 later (suc k) (quiet still rest) = later (suc k) rest
 
 sooner : {n j g : ℕ} {p numbers : List ℕ} (k : ℕ) → Stretch n j g p numbers → Stretch n j g p (take k numbers)
 sooner zero st = over
 sooner (suc k) over = over
-sooner (suc k) (pick ok s rest) = pick ok s (sooner k rest)
+sooner {n = n} {j = j} {g = g} (suc k) (pick {p = p} {numbers = numbers} ok s rest) = pick ok s (sooner {p = picked p} {numbers = numbers} k rest)
 sooner (suc k) (quiet still rest) = quiet still (sooner (suc k) rest)
 
 -- the job's number is among every so many answers in a row

@@ -19,13 +19,13 @@ use Rattle.turns.specs.Tick.{ticked}
 use Rattle.law_picks.specs.Stretch.{Orderly, Stands}
 use Rattle.turns.proofs.Pick.{picked_has_none, idle_keeps, ready_gains}
 use Rattle.law_picks.proofs.Rule.{chosen_is_who_the_rule_picks}
-use Rattle.law_picks.proofs.Given.{pick-changes-only, pick-keeps-the-length, pick-gives-a-turn, nobody-picked-leaves}
+use Rattle.law_picks.proofs.Given.{pick_changes_only, pick_keeps_the_length, pick_gives_a_turn, nobody_picked_leaves}
 use Rattle.turns.proofs.Tick.{none_stays, tick_keeps_the_number, tick_keeps_the_priority, tick_keeps_accumulated, tick_keeps_the_length, tick_lets_timeouts_fall}
 use Rattle.law_picks.proofs.Quiet.{kept_record_stands}
 
 -- a pick keeps every field of every job but accumulated and the key to deliver
 pub pick_keeps_fields : (p : List ℕ) (k f : ℕ) → f < width Jobs → f ≢ accumulated_field → f ≢ key_field → field (picked p) Jobs k f ≡ field p Jobs k f
-pick_keeps_fields p k f l a d = pick-changes-only p (slot Jobs k + f) (omega arith) (λ j m. (λ e. a (omega arith), λ e. d (omega arith)))
+pick_keeps_fields p k f l a d = pick_changes_only p (slot Jobs k + f) (omega arith) (λ j m. (λ e. a (omega arith), λ e. d (omega arith)))
 
 pub pick_keeps_the_number : (p : List ℕ) (k : ℕ) → number (picked p) Jobs k ≡ number p Jobs k
 pick_keeps_the_number p k = pick_keeps_fields p k number_field (omega arith) (omega arith) (omega arith)
@@ -48,10 +48,10 @@ pub pick_accumulates : (p : List ℕ) → slot Jobs (positions Jobs) ≤ length 
 pick_accumulates p whole k l =
     ⊎_elim
     (λ w.
-    ap (λ (q : List ℕ). accumulated q k) (nobody-picked-leaves p w.0)
+    ap (λ (q : List ℕ). accumulated q k) (nobody_picked_leaves p w.0)
     ∙ get_or-set_other p current_word (slot Jobs k + accumulated_field) nobody 0 (omega arith)
     ∙ sym (idle_keeps p (chosen_job p) k (omega (arith, w.0)) (not_ready (ready p k) (w.1 k l))))
-    (λ w. (pick-gives-a-turn p whole w.inside).gains k l)
+    (λ w. (pick_gives_a_turn p whole w.inside).gains k l)
     (chosen_is_who_the_rule_picks p)
   where
     not_ready : (b : Bool) → (b ≡ true → ⊥) → b ≡ false
@@ -74,7 +74,7 @@ pick_holds_accumulated p whole k l h = omega (arith, pick_accumulates p whole k 
 pub pick_keeps_orderly : (p : List ℕ) → Orderly p → Orderly (picked p)
 pick_keeps_orderly p ok =
     record {
-      whole = omega (arith, pick-keeps-the-length p, ok.whole);
+      whole = omega (arith, pick_keeps_the_length p, ok.whole);
       idle = λ i l e. pick_accumulates p ok.whole i l ∙ idle_has_none i l (sym (pick_keeps_who_is_ready p i) ∙ e);
       low = λ i l. omega (arith, pick_keeps_the_priority p i, ok.low i l);
     }
@@ -115,12 +115,12 @@ tick_keeps_orderly p ok =
 pub pick_leaves_a_ready_job_current : (p : List ℕ) → slot Jobs (positions Jobs) ≤ length p → (word (picked p) current_word ≡ nobody) ⊎ ((j : ℕ) × (j < positions Jobs) × (ready (picked p) j ≡ true) × (word (picked p) current_word ≡ number (picked p) Jobs j))
 pick_leaves_a_ready_job_current p whole =
     ⊎_elim
-    (λ w. inl (ap (λ (q : List ℕ). word q current_word) (nobody-picked-leaves p w.0) ∙ get_or-set_same p current_word nobody 0 (omega arith)))
+    (λ w. inl (ap (λ (q : List ℕ). word q current_word) (nobody_picked_leaves p w.0) ∙ get_or-set_same p current_word nobody 0 (omega arith)))
     (λ w.
     inr (
       chosen_job p,
       w.inside,
       pick_keeps_who_is_ready p (chosen_job p) ∙ w.is_ready,
-      (pick-gives-a-turn p whole w.inside).becomes_current ∙ sym (pick_keeps_the_number p (chosen_job p)),
+      (pick_gives_a_turn p whole w.inside).becomes_current ∙ sym (pick_keeps_the_number p (chosen_job p)),
     ))
     (chosen_is_who_the_rule_picks p)

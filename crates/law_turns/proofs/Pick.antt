@@ -27,7 +27,7 @@ use Rattle.turns.specs.Pick.{chosen_job, accumulated_after, picked}
 use Rattle.law_picks.specs.Stretch.{Orderly, Chosen}
 use Rattle.law_picks.proofs.Rule.{chosen_is_who_the_rule_picks, ready_is_used}
 use Rattle.turns.proofs.Pick.{idle_keeps}
-use Rattle.law_picks.proofs.Given.{pick-changes-only, pick-keeps-the-length, pick-keeps-the-head, pick-keeps-the-rest, pick-gives-a-turn, nobody-picked-leaves}
+use Rattle.law_picks.proofs.Given.{pick_changes_only, pick_keeps_the_length, pick_keeps_the_head, pick_keeps_the_rest, pick_gives_a_turn, nobody_picked_leaves}
 use Rattle.law_picks.proofs.Kept.{pick_keeps_fields, pick_keeps_the_number, pick_keeps_the_priority, pick_keeps_the_timeout, pick_keeps_who_is_ready, pick_accumulates, pick_holds_accumulated, pick_keeps_orderly, pick_leaves_a_ready_job_current}
 
 -- a sound picture is orderly
@@ -78,17 +78,17 @@ module _ (p : List ℕ) (S : Sound p) where
 
       key_stays : delivered (picked p) k ≡ delivered p k
       key_stays = ⊎_elim
-          (λ w. ap (λ (q : List ℕ). delivered q k) (nobody-picked-leaves p w.0) ∙ get_or-set_other p current_word (slot Jobs k + key_field) nobody 0 (λ e. omega arith))
-          (λ (c : Chosen p (positions Jobs) (chosen_job p)). (pick-gives-a-turn p orderly.whole c.inside).other_keys k other)
+          (λ w. ap (λ (q : List ℕ). delivered q k) (nobody_picked_leaves p w.0) ∙ get_or-set_other p current_word (slot Jobs k + key_field) nobody 0 (λ e. omega arith))
+          (λ (c : Chosen p (positions Jobs) (chosen_job p)). (pick_gives_a_turn p orderly.whole c.inside).other_keys k other)
           (chosen_is_who_the_rule_picks p)
 
   pub pick_is_steady : Steady p (picked p)
   pick_is_steady = record {
-    long = pick-keeps-the-length p;
-    before = λ i l n. pick-keeps-the-head p i l n;
+    long = pick_keeps_the_length p;
+    before = λ i l n. pick_keeps_the_head p i l n;
     fields = λ k f l m. pick_keeps_fields p k f (omega arith) (λ e. omega arith) (λ e. omega arith);
     unused = unused_kept;
-    after = λ i l. pick-keeps-the-rest p i (omega arith);
+    after = λ i l. pick_keeps_the_rest p i (omega arith);
   }
 
   same_field : (k f : ℕ) → f < width Jobs → f ≢ 4 → f ≢ 7 → field (picked p) Jobs k f ≡ field p Jobs k f

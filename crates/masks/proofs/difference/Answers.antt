@@ -1,7 +1,6 @@
 use mathlib.Core.Path.{refl}
 use lib.Bits.{and_le_l}
 use Rattle.masks.specs.Masks.{without}
-use borrow.Author.Rules.{rules}
 use Rattle.masks.proofs.difference.Goals as goal
 
 pub returns : goal.returns

@@ -1,7 +1,6 @@
 use Rattle.masks.proofs.Lowest.{complement}
 use lib.Count.{trailing_le}
 use Prim.Native.Nat.{◌-◌}
-use borrow.Author.Rules.{rules}
 use native.Mathlib.Omega.{arith}
 use Rattle.masks.proofs.lowest_clear.Goals as goal
 

@@ -1,5 +1,4 @@
 use Rattle.masks.proofs.Masks.{one_shifted, with_bit_is}
-use borrow.Author.Rules.{rules}
 use Rattle.masks.proofs.with_member.Goals as goal
 
 pub returns : goal.returns

@@ -6,7 +6,6 @@ use mir.Val.{bool_byte}
 use native.Mathlib.Nat.{zero-mul}
 use Rattle.masks.specs.Masks.{with_bit}
 use Rattle.masks.proofs.Masks.{one_shifted, with_bit_is}
-use borrow.Author.Rules.{rules}
 use Rattle.masks.proofs.with_passing.Goals as goal
 
 -- src/lib.rt:33:1

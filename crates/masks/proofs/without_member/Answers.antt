@@ -1,6 +1,5 @@
 use mathlib.Core.Path.{◌∙◌}
 use Rattle.masks.proofs.Masks.{one_shifted, without_bit_is}
-use borrow.Author.Rules.{rules}
 use Rattle.masks.proofs.without_member.Goals as goal
 
 -- src/lib.rt:25:1

@@ -1,6 +1,4 @@
 use Rattle.words.proofs.Signed.{cast_pos, cast_neg}
-use borrow.Author.Rules.{rules}
-use native.Mathlib.Omega.{arith}
 use Rattle.words.proofs.bits_of.Goals as goal
 
 pub overflow_cast-result : goal.overflow_cast-result

@@ -1,10 +1,6 @@
 use Rattle.words.proofs.Words.{clear_end, clear_more}
-use Rattle.words.specs.Words.{clear}
-use lib.ListN.{length, length-set}
-use mathlib.Core.Path.{◌≡◌, refl, sym, ap, ◌∙◌}
-use Prim.Native.Nat.{◌-◌, ◌≤◌}
-use borrow.Author.Rules.{rules}
-use native.Mathlib.Omega.{arith}
+use lib.ListN.{length-set}
+use mathlib.Core.Path.{refl, sym, ◌∙◌}
 use Rattle.words.proofs.clear.Goals as goal
 
 pub loop-i-init : goal.loop-i-init

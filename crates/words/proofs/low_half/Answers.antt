@@ -1,10 +1,9 @@
 use native.Mathlib.Omega.{arith}
 use Rattle.words.proofs.Signed.{spread}
-use mir.ValLaws.{to_z_pos, to_z-neg}
+use mir.ValLaws.{to_z_pos}
 use mir.Syntax.{w16, w32}
-use Prim.Native.Nat.{◌-◌, ◌%◌}
-use mathlib.Core.Path.{ap, sym, ◌∙◌}
-use borrow.Author.Rules.{rules}
+use Prim.Native.Nat.{◌%◌}
+use mathlib.Core.Path.{sym, ◌∙◌}
 use Rattle.words.proofs.low_half.Goals as goal
 
 pub returns-then-half-lt32768 : goal.returns-then-half-lt32768

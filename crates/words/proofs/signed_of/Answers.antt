@@ -3,7 +3,6 @@ use Rattle.words.proofs.Signed.{not_not}
 use mir.Val.{to_z}
 use mir.Syntax.{w32}
 use mathlib.Core.Path.{ap}
-use borrow.Author.Rules.{rules}
 use Rattle.words.proofs.signed_of.Goals as goal
 
 pub returns-else-longword-lt-FIRST_NEGATIVE : goal.returns-else-longword-lt-FIRST_NEGATIVE
