@@ -6,10 +6,12 @@ need_rattle() {
         echo "The Rattle toolchain is missing: there is no command 'rt' on the PATH. Install the kit ($(cat "$(dirname "${BASH_SOURCE[0]}")/../rattle-version")) and try again." >&2
         exit 2
     }
-    kit=${RATTLE_HOME:-$(cd "$(dirname "$(readlink -f "$rt_path")")/.." && pwd -P)}
+    kit=$(cd "$(dirname "$(readlink -f "$rt_path")")/.." && pwd -P)
+    # A kit for several processors has a folder for each; where its programs are not this one's, an emulator stands beside its tools.
     machine_tools=$kit/on/$(uname -m)/toolchain
-    [ -d "$machine_tools" ] || {
-        echo "The Rattle kit at $kit has nothing for this processor ($(uname -m)); it works on x86-64 and on Arm (aarch64)." >&2
+    [ -d "$machine_tools" ] || machine_tools=$kit/toolchain
+    [ "$(uname -m)" = x86_64 ] || [ -x "$machine_tools/bin/qemu-x86_64" ] || {
+        echo "The Rattle kit at $kit has nothing for this processor ($(uname -m)): it works on x86-64." >&2
         exit 2
     }
 }
@@ -122,7 +124,7 @@ count_instructions() { # FOLDER COMMAND..
 # The crates that the named ones stand on, themselves too, a line each.
 crates_of() {
     awk -v names="$*" '
-        /^[a-z]/ { name = $1; sub(/:$/, "", name); $1 = ""; needs[name] = $0 }
+        /^[a-z]/ { name = $0; sub(/[ :].*/, "", name); needs[name] = $0; sub(/^[^:]*:/, "", needs[name]) }
         END {
             n = split(names, next_, " ")
             for (i = 1; i <= n; i++)
@@ -137,14 +139,15 @@ crates_of() {
 
 # Whether a built file is there and no source is newer.
 is_built() {
-    [ -f "$1" ] && [ -z "$(find crates.txt crates -newer "$1" \( -name '*.rt' -o -name '*.antt' -o -name crates.txt \) -print -quit)" ]
+    [ -f "$1" ] && [ -z "$(find crates.txt crates -path 'crates/*/out' -prune -o -newer "$1" \( -name '*.rt' -o -name '*.antt' -o -name crates.txt \) -print -quit)" ]
 }
 
-# Shows how many crates are proved of how many, by what `rt` writes to its log, until the script that calls it ends it or ends.
+# Shows how many crates are proved of how many, by what `rt` writes to its log, until the script that calls it ends it or ends. Crates that are
+# proved already have no line there.
 show_proved() { # LOG ALL
     local proved shown=0
     while sleep 0.5 && kill -0 $$ 2>/dev/null; do
-        proved=$(grep -c '^rt: [a-z_]* proved (' "$1")
+        proved=$(grep -c '^logic=proved' "$1")
         if [ -t 2 ]; then
             printf '\r%d of %d crates proved ' "$proved" "$2" >&2
         elif [ "$proved" -ge $((shown + 10)) ]; then
@@ -154,15 +157,16 @@ show_proved() { # LOG ALL
     done
 }
 
-# Builds by a command of rt's what a crate gives, and shows how many of the crates that it stands on are proved.
+# Builds by a command of rt's what a crate gives, `run` a program and `lib` a static library, and shows how many of the crates that it stands on are
+# proved.
 build() { # COMMAND NAME FILE
-    local log=target/build-$2.log all status
+    local log=$PWD/target/build-$2.log all status
     all=$(crates_of "$2" | wc -l)
     mkdir -p target
-    echo "Building $2: this proves the $all crates that it stands on, and from nothing takes some minutes." >&2
+    echo "Building $2: this proves it and the crates that it stands on, $all, and from nothing takes some minutes." >&2
     : >"$log"
     show_proved "$log" "$all" &
-    rt "$1" "$2" </dev/null >"$log" 2>&1
+    (cd "crates/$2" && rt "$1" </dev/null >"$log" 2>&1)
     status=$?
     kill $! && wait $! 2>/dev/null
     [ ! -t 2 ] || echo >&2
@@ -176,6 +180,30 @@ build() { # COMMAND NAME FILE
         exit 1
     }
     touch "$3"
+}
+
+# Where rt leaves a program, built and proved.
+program_of() { # NAME
+    echo "crates/$1/out/$1"
+}
+
+# Builds a program where a source is newer. Run without input, it ends at once.
+build_program() { # NAME
+    is_built "$(program_of "$1")" || build run "$1" "$(program_of "$1")"
+}
+
+# The archive under its own name: rt names it as its crate, and a library and a static library are two crates, krowjyvan and krowjyvan_c.
+archive=target/staticlib/libkrowjyvan.a
+
+# Builds the archive where a source is newer.
+build_archive() {
+    local made=crates/krowjyvan_c/out/libkrowjyvan_c.a
+    ! is_built "$archive" || return 0
+    is_built "$made" || build lib krowjyvan_c "$made"
+    { mkdir -p "$(dirname "$archive")" && cp "$made" "$archive"; } || {
+        echo "$archive can't be written." >&2
+        exit 1
+    }
 }
 
 # How many lines a file has; a last one that no line feed ends counts too.
