@@ -6,10 +6,12 @@ need_rattle() {
         echo "The Rattle toolchain is missing: there is no command 'rt' on the PATH. Install the kit ($(cat "$(dirname "${BASH_SOURCE[0]}")/../rattle-version")) and try again." >&2
         exit 2
     }
-    kit=${RATTLE_HOME:-$(cd "$(dirname "$(readlink -f "$rt_path")")/.." && pwd -P)}
+    kit=$(cd "$(dirname "$(readlink -f "$rt_path")")/.." && pwd -P)
+    # A kit for several processors has a folder for each; where its programs are not this one's, an emulator stands beside its tools.
     machine_tools=$kit/on/$(uname -m)/toolchain
-    [ -d "$machine_tools" ] || {
-        echo "The Rattle kit at $kit has nothing for this processor ($(uname -m)); it works on x86-64 and on Arm (aarch64)." >&2
+    [ -d "$machine_tools" ] || machine_tools=$kit/toolchain
+    [ "$(uname -m)" = x86_64 ] || [ -x "$machine_tools/bin/qemu-x86_64" ] || {
+        echo "The Rattle kit at $kit has nothing for this processor ($(uname -m)): it works on x86-64." >&2
         exit 2
     }
 }
@@ -122,7 +124,7 @@ count_instructions() { # FOLDER COMMAND..
 # The crates that the named ones stand on, themselves too, a line each.
 crates_of() {
     awk -v names="$*" '
-        /^[a-z]/ { name = $1; sub(/:$/, "", name); $1 = ""; needs[name] = $0 }
+        /^[a-z]/ { name = $0; sub(/[ :].*/, "", name); needs[name] = $0; sub(/^[^:]*:/, "", needs[name]) }
         END {
             n = split(names, next_, " ")
             for (i = 1; i <= n; i++)
@@ -137,14 +139,15 @@ crates_of() {
 
 # Whether a built file is there and no source is newer.
 is_built() {
-    [ -f "$1" ] && [ -z "$(find crates.txt crates -newer "$1" \( -name '*.rt' -o -name '*.antt' -o -name crates.txt \) -print -quit)" ]
+    [ -f "$1" ] && [ -z "$(find crates.txt crates -path 'crates/*/out' -prune -o -newer "$1" \( -name '*.rt' -o -name '*.antt' -o -name crates.txt \) -print -quit)" ]
 }
 
-# Shows how many crates are proved of how many, by what `rt` writes to its log, until the script that calls it ends it or ends.
+# Shows how many crates are proved of how many, by what `rt` writes to its log, until the script that calls it ends it or ends. Crates that are
+# proved already have no line there.
 show_proved() { # LOG ALL
     local proved shown=0
     while sleep 0.5 && kill -0 $$ 2>/dev/null; do
-        proved=$(grep -c '^rt: [a-z_]* proved (' "$1")
+        proved=$(grep -c '^logic=proved' "$1")
         if [ -t 2 ]; then
             printf '\r%d of %d crates proved ' "$proved" "$2" >&2
         elif [ "$proved" -ge $((shown + 10)) ]; then
@@ -154,15 +157,16 @@ show_proved() { # LOG ALL
     done
 }
 
-# Builds by a command of rt's what a crate gives, and shows how many of the crates that it stands on are proved.
+# Builds by a command of rt's what a crate gives, `run` a program and `lib` a static library, and shows how many of the crates that it stands on are
+# proved.
 build() { # COMMAND NAME FILE
-    local log=target/build-$2.log all status
+    local log=$PWD/target/build-$2.log all status
     all=$(crates_of "$2" | wc -l)
     mkdir -p target
-    echo "Building $2: this proves the $all crates that it stands on, and from nothing takes some minutes." >&2
+    echo "Building $2: this proves it and the crates that it stands on, $all, and from nothing takes some minutes." >&2
     : >"$log"
     show_proved "$log" "$all" &
-    rt "$1" "$2" </dev/null >"$log" 2>&1
+    (cd "crates/$2" && rt "$1" </dev/null >"$log" 2>&1)
     status=$?
     kill $! && wait $! 2>/dev/null
     [ ! -t 2 ] || echo >&2
@@ -176,6 +180,50 @@ build() { # COMMAND NAME FILE
         exit 1
     }
     touch "$3"
+}
+
+# Where rt leaves a program, built and proved.
+program_of() { # NAME
+    echo "crates/$1/out/$1"
+}
+
+# Builds a program where a source is newer. Run without input, it ends at once.
+build_program() { # NAME
+    is_built "$(program_of "$1")" || build run "$1" "$(program_of "$1")"
+}
+
+# The archive under its own name: rt names it as its crate, and a library and a static library are two crates, krowjyvan and krowjyvan_c.
+archive=target/staticlib/libkrowjyvan.a
+made_archive=crates/krowjyvan_c/out/libkrowjyvan_c.a
+
+# Builds the archive where a source is newer.
+build_archive() {
+    ! is_built "$archive" || return 0
+    is_built "$made_archive" || build lib krowjyvan_c "$made_archive"
+    { mkdir -p "$(dirname "$archive")" && cp "$made_archive" "$archive"; } || {
+        echo "$archive can't be written." >&2
+        exit 1
+    }
+}
+
+# To be called right behind an `rt ci` that passed, which proves a static library and doesn't build it: builds it over the libraries that this run
+# has left, as rt builds a program. `rt lib` would prove each of them once more, as it does in build_archive where this can't be done: where the
+# checkout's own checks have left libraries, rt ci puts those back.
+build_archive_of_ci() {
+    local crate words=(--crate-name krowjyvan_c src/lib.rt --extern "std=$kit/rlibs/std.rlib" -L "dependency=$kit/rlibs")
+    rm -f "$archive" "$made_archive"
+    for crate in $(crates_of krowjyvan_c); do
+        [ "$crate" != krowjyvan_c ] || continue
+        [ -f "crates/$crate/out/rlib/$crate.rlib/format" ] && [ ! -e "crates/$crate/out/rlib/stamp" ] || return
+        words+=(-L "dependency=$PWD/crates/$crate/out/rlib")
+    done
+    for crate in $(sed -n 's/^krowjyvan_c staticlib: //p' crates.txt); do
+        words+=(--extern "$crate=$PWD/crates/$crate/out/rlib/$crate.rlib")
+    done
+    words+=(--antt-project "$kit/rattle/logic/antt-project.json" --logic-built "$kit/logic_built" --jobs 1 --links krowjyvan_c= --crate-type staticlib)
+    mkdir -p target
+    (cd crates/krowjyvan_c && "$kit/bin/rattle" build "${words[@]}" --toolchain "$kit/toolchain" --backend llvm -o "out/${made_archive##*/}") \
+        </dev/null >target/build-krowjyvan_c.log 2>&1 || rm -f "$made_archive"
 }
 
 # How many lines a file has; a last one that no line feed ends counts too.

@@ -1,4 +1,4 @@
-// The manager's public face for a hub that isn't in Rattle: the functions that include/krowjyvan.h declares.
+// The manager's public face for a hub that isn't in Rattle: the functions that include/krowjyvan.h declares, which krowjyvan_c exports.
 // A lent slice is a pointer and a length there; nothing is asked of lengths or contents, and nothing is kept between calls.
 #![tactic(auto)]
 
@@ -21,24 +21,21 @@ use report_table::longwords_of;
 use words::put;
 
 // manager::fresh.
-#[unsafe(no_mangle)]
-pub extern "C" fn krowjyvan_fresh(p: &mut [u32], n: u32, h: u32) -> i32
+pub fn krowjyvan_fresh(p: &mut [u32], n: u32, h: u32) -> i32
     ensures { (result ≡ fresh_key p.old n h) × (p.new ≡ fresh_picture p.old n h) }
 {
     manager::fresh(p, n, h)
 }
 
 // manager::call.
-#[unsafe(no_mangle)]
-pub extern "C" fn krowjyvan_call(p: &mut [u32], trap: u32, d: &mut [u32], name: &[u8]) -> i32
+pub fn krowjyvan_call(p: &mut [u32], trap: u32, d: &mut [u32], name: &[u8]) -> i32
     ensures { Meets (called trap p.old d.old name.now) result p.new d.new }
 {
     manager::call(p, trap, d, name)
 }
 
 // manager::pick: the key is returned, and the number goes into a lent longword.
-#[unsafe(no_mangle)]
-pub extern "C" fn krowjyvan_pick(p: &mut [u32], number: &mut u32) -> i32
+pub fn krowjyvan_pick(p: &mut [u32], number: &mut u32) -> i32
     ensures { (result ≡ (pick_answer p.old).key) × ((number.new ≡ (pick_answer p.old).number) × (p.new ≡ pick_picture p.old)) }
 {
     let picked = manager::pick(p);
@@ -47,8 +44,7 @@ pub extern "C" fn krowjyvan_pick(p: &mut [u32], number: &mut u32) -> i32
 }
 
 // manager::tick.
-#[unsafe(no_mangle)]
-pub extern "C" fn krowjyvan_tick(p: &mut [u32]) -> i32
+pub fn krowjyvan_tick(p: &mut [u32]) -> i32
     ensures { (result ≡ tick_key p.old) × (p.new ≡ ticking p.old) }
 {
     manager::tick(p)
@@ -56,13 +52,7 @@ pub extern "C" fn krowjyvan_tick(p: &mut [u32]) -> i32
 
 // manager::report_tree, in a table of longwords, five a line: the key is returned, and how many lines were written goes into a lent
 // number. The longwords behind those lines keep what they held.
-#[unsafe(no_mangle)]
-pub extern "C" fn krowjyvan_report_tree(
-    p: &[u32],
-    top: u32,
-    lines: &mut [u32],
-    count: &mut usize,
-) -> i32
+pub fn krowjyvan_report_tree(p: &[u32], top: u32, lines: &mut [u32], count: &mut usize) -> i32
     ensures { (result ≡ report_key p.now top (lines_lent lines.old)) × ((count.new ≡ length (reportLines p.now top (lines_lent lines.old))) × (lines.new ≡ sets lines.old 0 (lines_longwords (reportLines p.now top (lines_lent lines.old))))) }
 {
     let lent = lines.len() / 5;
@@ -74,8 +64,7 @@ pub extern "C" fn krowjyvan_report_tree(
 
 // manager::error_text and manager::error_key: the key is returned, and where the part starts in its text and how many characters it
 // has go into lent numbers.
-#[unsafe(no_mangle)]
-pub extern "C" fn krowjyvan_error_text(
+pub fn krowjyvan_error_text(
     key: i32,
     system: &[u8],
     driver: &[u8],

@@ -1,5 +1,4 @@
 use Rattle.asking.specs.Ask.{answered}
-use borrow.Author.Rules.{rules}
 use Rattle.asking.proofs.answer.Goals as goal
 
 pub returns : goal.returns

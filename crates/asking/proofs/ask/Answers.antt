@@ -1,15 +1,13 @@
 use native.Mathlib.Omega.{arith}
 use mathlib.Core.Path.{◌≡◌, sym, ◌∙◌}
-use borrow.Author.Tests.{not-true, not-false}
 use Rattle.picture.specs.declared.Table.TheVariants.{Jobs}
-use Rattle.picture.specs.declared.JobFound.TheVariants.{At, Dead}
+use Rattle.picture.specs.declared.JobFound.TheVariants.{At}
 use Rattle.picture.specs.Numbers.{job_at}
 use Rattle.calls.proofs.Found.{Found, job_found}
 use Rattle.calls.specs.Registers.{D1, D2, meant}
 use Rattle.calls.proofs.Outcome.{meets_refuse, meets_succeed}
 use Rattle.asking.proofs.Bounds.{base_within, priority_within}
 use Rattle.asking.proofs.Call.{ask_no_top, ask_no_job, ask_outside, ask_answers}
-use borrow.Author.Rules.{rules}
 use Rattle.asking.proofs.ask.Goals as goal
 
 pub returns-in_default : goal.returns-in_default

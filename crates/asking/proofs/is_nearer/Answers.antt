@@ -1,7 +1,6 @@
-use mathlib.Core.Path.{◌≡◌, ap, ◌∙◌}
+use mathlib.Core.Path.{ap, ◌∙◌}
 use Rattle.picture.specs.Numbers.{tag}
 use Rattle.asking.proofs.Next.{not_greater, first_one, not_nearer, a_nearer_one}
-use borrow.Author.Rules.{rules}
 use Rattle.asking.proofs.is_nearer.Goals as goal
 
 pub returns-then-own-tag : goal.returns-then-own-tag

@@ -1,11 +1,9 @@
 use Rattle.picture.specs.Layout.{positions}
 use Rattle.picture.specs.declared.Table.TheVariants.{Jobs}
-use mathlib.Core.Logic.{⊎_elim}
 use mathlib.Core.Path.{◌≡◌, refl, sym, ◌∙◌}
-use Prim.Native.Nat.{◌≤◌, ◌-◌}
+use Prim.Native.Nat.{◌-◌}
 use Rattle.asking.specs.Next.{next_below, next_member}
 use Rattle.asking.proofs.Next.{next_takes, next_passes}
-use borrow.Author.Rules.{rules}
 use native.Mathlib.Omega.{arith}
 use Rattle.asking.proofs.next_member.Goals as goal
 use Rattle.asking.proofs.next_member.Goals.{then-is_nearer, else-is_nearer}

@@ -1,12 +1,8 @@
 use Rattle.picture.specs.Layout.{positions}
 use Rattle.picture.specs.declared.Table.TheVariants.{Jobs}
-use mathlib.Core.Logic.{⊎_elim}
-use mathlib.Core.Path.{◌≡◌, refl, sym, ◌∙◌}
+use mathlib.Core.Path.{◌≡◌}
 use Prim.Native.Nat.{◌≤◌, ◌-◌}
-use Rattle.asking.specs.Next.{next_below, next_member}
-use Rattle.asking.proofs.Next.{next_takes, next_passes}
-use borrow.Author.Rules.{rules}
-use native.Mathlib.Omega.{arith}
+use Rattle.asking.specs.Next.{next_below}
 use Rattle.asking.proofs.next_member.Given as goal
 
 abbrev pub invariant-loop-k : goal.invariant-loop-k

@@ -1,6 +1,5 @@
 use Rattle.asking.specs.Ask.{room}
 use borrow.Author.Tests.{eq-eqb, ne_eqb}
-use borrow.Author.Rules.{rules}
 use Rattle.asking.proofs.room_of.Goals as goal
 
 pub returns-then-k-eq0 : goal.returns-then-k-eq0

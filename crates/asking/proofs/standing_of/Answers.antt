@@ -2,7 +2,6 @@ use native.Mathlib.Omega.{arith}
 use Rattle.asking.specs.Ask.{standing}
 use lib.IntN.{pos}
 use Rattle.words.proofs.Signed.{bits_same, bits_differ}
-use borrow.Author.Rules.{rules}
 use Rattle.asking.proofs.standing_of.Goals as goal
 
 pub returns-then-timeout_of-eq0 : goal.returns-then-timeout_of-eq0

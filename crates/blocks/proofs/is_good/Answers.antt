@@ -2,7 +2,6 @@ use native.Mathlib.Omega.{arith}
 use Rattle.blocks.specs.Walk.{good}
 use borrow.Author.Tests.{le-leb, lt-leb, eq-eqb, ne_eqb}
 use Prim.Native.Nat.{◌-◌, ◌/◌}
-use borrow.Author.Rules.{rules}
 use Rattle.blocks.proofs.is_good.Goals as goal
 
 pub returns-then-size-ne0 : goal.returns-then-size-ne0

@@ -1,7 +1,6 @@
 use native.Mathlib.Omega.{arith}
 use Rattle.blocks.proofs.Walk.{is_good, next_good, next_bad}
-use mathlib.Core.Path.{sym, ◌∙◌, ap}
-use borrow.Author.Rules.{rules}
+use mathlib.Core.Path.{sym, ◌∙◌}
 use Rattle.blocks.proofs.next_block.Goals as goal
 
 pub overflow_add-result : goal.overflow_add-result

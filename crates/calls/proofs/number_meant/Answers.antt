@@ -1,6 +1,5 @@
 use Rattle.calls.specs.Registers.{meant}
 use mathlib.Core.Path.{sym, ◌∙◌}
-use borrow.Author.Rules.{rules}
 use Rattle.calls.proofs.number_meant.Goals as goal
 
 pub returns-then-is_set : goal.returns-then-is_set

@@ -2,7 +2,6 @@ use mathlib.Core.Path.{ap, ◌∙◌}
 use mir.Syntax.{w32}
 use mir.ValLaws.{to_z-of_z}
 use Rattle.words.specs.Signed.{bits}
-use borrow.Author.Rules.{rules}
 use Rattle.calls.proofs.put_timeout.Goals as goal
 
 pub returns : goal.returns

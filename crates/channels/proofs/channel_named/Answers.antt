@@ -1,4 +1,3 @@
-use borrow.Author.Rules.{rules}
 use Rattle.channels.proofs.channel_named.Goals as goal
 
 pub returns : goal.returns

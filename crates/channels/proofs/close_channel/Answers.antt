@@ -1,14 +1,12 @@
 use Rattle.picture.specs.declared.Area.TheVariants.{Heap}
 use Rattle.sound.proofs.Room.{sound_tables}
 use Rattle.rooms.proofs.Sizes.{areas_lie_in_a_sound_picture}
-use mathlib.Core.Path.{◌≡◌, sym, ◌∙◌}
-use borrow.Author.Tests.{not-true, not-false}
+use mathlib.Core.Path.{sym, ◌∙◌}
 use Rattle.words.specs.Words.{word}
 use Rattle.calls.proofs.Outcome.{meets_refuse, meets_succeed}
 use Rattle.calls.specs.Call.{outcome}
 use Rattle.channels.proofs.Found.{Named, channel_named}
 use Rattle.channels.specs.Calls.{close_channel}
-use borrow.Author.Rules.{rules}
 use Rattle.channels.proofs.close_channel.Goals as goal
 
 pub returns-in_default : goal.returns-in_default

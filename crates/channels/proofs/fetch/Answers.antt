@@ -1,13 +1,11 @@
 use native.Mathlib.Omega.{arith}
-use Rattle.queues.specs.Ring.{Ring, waits}
-use mathlib.Core.Path.{◌≡◌, sym, ◌∙◌, subst}
-use borrow.Author.Tests.{not-true, not-false}
+use Rattle.queues.specs.Ring.{Ring}
+use mathlib.Core.Path.{sym, ◌∙◌, subst}
 use Rattle.words.specs.Words.{word}
 use Rattle.calls.proofs.Outcome.{meets_refuse, meets_succeed}
 use Rattle.calls.specs.Call.{outcome}
-use Rattle.channels.proofs.Found.{Named, channel_named, Held, named_queue}
+use Rattle.channels.proofs.Found.{Named, channel_named, named_queue}
 use Rattle.channels.specs.Calls.{fetch}
-use borrow.Author.Rules.{rules}
 use Rattle.channels.proofs.fetch.Goals as goal
 
 pub returns-in_default : goal.returns-in_default

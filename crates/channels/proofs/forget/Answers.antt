@@ -4,7 +4,6 @@ use native.Mathlib.Omega.{arith}
 use Rattle.picture.proofs.Members.{positions_within}
 use Rattle.masks.proofs.Masks.{without_bit_le}
 use Rattle.channels.specs.Effects.{forgotten}
-use borrow.Author.Rules.{rules}
 use Rattle.channels.proofs.forget.Goals as goal
 
 pub without_member-left-requires : goal.without_member-left-requires

@@ -1,11 +1,8 @@
 use Rattle.words.specs.Words.{word}
-use Prim.Native.Nat.{ℕ, ◌%◌}
+use Prim.Native.Nat.{◌%◌}
 use native.Mathlib.Omega.{arith}
-use Prim.Native.Nat.{◌<◌}
 use Rattle.channels.proofs.Timeout.{low_half_zero}
 use Rattle.channels.specs.Effects.{immediate}
-use mathlib.Core.Path.{◌≡◌}
-use borrow.Author.Rules.{rules}
 use Rattle.channels.proofs.is_immediate.Goals as goal
 
 pub returns : goal.returns

@@ -1,11 +1,9 @@
-use mathlib.Core.Path.{◌≡◌, sym, ◌∙◌}
-use borrow.Author.Tests.{not-true, not-false}
+use mathlib.Core.Path.{sym, ◌∙◌}
 use Rattle.words.specs.Words.{word}
 use Rattle.calls.proofs.Outcome.{meets_refuse, meets_succeed}
 use Rattle.calls.specs.Call.{outcome}
 use Rattle.channels.proofs.Found.{Named, channel_named}
 use Rattle.channels.specs.Calls.{pending}
-use borrow.Author.Rules.{rules}
 use Rattle.channels.proofs.pending.Goals as goal
 
 pub returns-in_default : goal.returns-in_default

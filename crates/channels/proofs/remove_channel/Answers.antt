@@ -1,5 +1,4 @@
 use Rattle.channels.specs.Effects.{closed}
-use borrow.Author.Rules.{rules}
 use Rattle.channels.proofs.remove_channel.Goals as goal
 
 pub returns : goal.returns

@@ -1,5 +1,4 @@
 use Rattle.creating.specs.Create.{job_registers}
-use borrow.Author.Rules.{rules}
 use Rattle.creating.proofs.answer_job.Goals as goal
 
 pub returns : goal.returns

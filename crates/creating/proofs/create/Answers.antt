@@ -9,7 +9,6 @@ use Rattle.rooms.proofs.Tables.{placing_leaves_the_tables}
 use Rattle.sound.proofs.Room.{sound_tables}
 use Rattle.entering.proofs.Vacant.{free_record_stays_zero}
 use Rattle.creating.proofs.Ways.{position_free, no_position, tag_left, no_tag, create_dead, create_bad, create_no_position, create_no_tag, create_nowhere, create_there}
-use borrow.Author.Rules.{rules}
 use Rattle.creating.proofs.create.Goals as goal
 
 pub returns-in_default : goal.returns-in_default

@@ -1,7 +1,6 @@
 use mathlib.Core.Path.{sym, ◌∙◌}
-use Rattle.calls.proofs.Found.{Found, job_found, job_dead}
+use Rattle.calls.proofs.Found.{job_found, job_dead}
 use Rattle.creating.proofs.Ways.{found_nobody, found_live, found_dead}
-use borrow.Author.Rules.{rules}
 use Rattle.creating.proofs.owner_for.Goals as goal
 
 pub returns-then-is_negative : goal.returns-then-is_negative

@@ -1,4 +1,3 @@
-use borrow.Author.Rules.{rules}
 use Rattle.effects.proofs.is_wait_good.Goals as goal
 
 pub returns-in-Endless : goal.returns-in-Endless

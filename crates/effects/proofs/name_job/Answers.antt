@@ -1,5 +1,4 @@
 use Rattle.effects.specs.Effects.{naming}
-use borrow.Author.Rules.{rules}
 use Rattle.effects.proofs.name_job.Goals as goal
 
 pub returns : goal.returns

@@ -1,5 +1,4 @@
 use Rattle.effects.specs.Effects.{prioritized}
-use borrow.Author.Rules.{rules}
 use Rattle.effects.proofs.put_priority.Goals as goal
 
 pub returns : goal.returns

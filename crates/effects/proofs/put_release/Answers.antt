@@ -2,7 +2,6 @@ use native.Mathlib.Omega.{arith}
 use lib.IntN.{pos}
 use Rattle.words.proofs.Signed.{bits_same, bits_differ}
 use Rattle.effects.specs.Effects.{released}
-use borrow.Author.Rules.{rules}
 use Rattle.effects.proofs.put_release.Goals as goal
 
 pub returns-then-timeout_of-eq0 : goal.returns-then-timeout_of-eq0

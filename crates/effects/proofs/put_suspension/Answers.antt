@@ -1,7 +1,6 @@
 use mir.Syntax.{w32}
 use mir.ValLaws.{to_z-of_z}
 use Rattle.effects.specs.Effects.{suspended}
-use borrow.Author.Rules.{rules}
 use Rattle.effects.proofs.put_suspension.Goals as goal
 
 pub returns : goal.returns

@@ -1,7 +1,5 @@
 use mathlib.Core.Path.{sym, ◌∙◌}
-use borrow.Author.Tests.{not-true, not-false}
 use Rattle.effects.specs.Effects.{waiting}
-use borrow.Author.Rules.{rules}
 use Rattle.effects.proofs.put_wait.Goals as goal
 
 pub returns-then-not-is_endless : goal.returns-then-not-is_endless

@@ -3,7 +3,6 @@ use mathlib.Core.Path.{sym, ◌∙◌}
 use Rattle.picture.proofs.Members.{positions_within}
 use Rattle.emptying.proofs.Steps.{back}
 use Rattle.emptying.specs.Taken.{blanked}
-use borrow.Author.Rules.{rules}
 use Rattle.emptying.proofs.blank.Goals as goal
 
 pub is_member-requires : goal.is_member-requires

@@ -1,11 +1,10 @@
 use Rattle.picture.specs.Layout.{positions}
 use Rattle.picture.specs.declared.Table.TheVariants.{Channels}
 use mathlib.Core.Path.{◌≡◌, refl, sym, ◌∙◌}
-use Prim.Native.Nat.{◌≤◌, ◌-◌}
+use Prim.Native.Nat.{◌-◌}
 use Rattle.masks.specs.Masks.{mask}
-use Rattle.emptying.specs.Taken.{channel_goes, channels_of}
+use Rattle.emptying.specs.Taken.{channels_of}
 use Rattle.masks.proofs.Masks.{mask_more}
-use borrow.Author.Rules.{rules}
 use native.Mathlib.Omega.{arith}
 use Rattle.emptying.proofs.channels_of.Goals as goal
 

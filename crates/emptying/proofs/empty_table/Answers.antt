@@ -1,10 +1,9 @@
-use mathlib.Core.Path.{◌≡◌, refl, sym, ap, ◌∙◌}
-use Prim.Native.Nat.{◌≤◌, ◌-◌}
+use mathlib.Core.Path.{◌≡◌, refl, ap, ◌∙◌}
+use Prim.Native.Nat.{◌-◌}
 use lib.ListN.{length}
 use Rattle.emptying.proofs.Steps.{each_more, length_blanked}
-use Rattle.emptying.specs.Taken.{blanked, emptied}
+use Rattle.emptying.specs.Taken.{emptied}
 use Rattle.emptying.specs.Each.{each}
-use borrow.Author.Rules.{rules}
 use native.Mathlib.Omega.{arith}
 use Rattle.emptying.proofs.empty_table.Goals as goal
 

@@ -1,11 +1,8 @@
-use mathlib.Core.Path.{◌≡◌, refl, sym, ap, ◌∙◌}
+use mathlib.Core.Path.{◌≡◌}
 use Prim.Native.Nat.{◌≤◌, ◌-◌}
 use lib.ListN.{length}
-use Rattle.emptying.proofs.Steps.{each_more, length_blanked}
-use Rattle.emptying.specs.Taken.{blanked, emptied}
+use Rattle.emptying.specs.Taken.{blanked}
 use Rattle.emptying.specs.Each.{each}
-use borrow.Author.Rules.{rules}
-use native.Mathlib.Omega.{arith}
 use Rattle.emptying.proofs.empty_table.Given as goal
 
 abbrev pub invariant-loop-k : goal.invariant-loop-k

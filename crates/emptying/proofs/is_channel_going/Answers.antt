@@ -1,5 +1,4 @@
 use Rattle.emptying.specs.Taken.{channel_goes}
-use borrow.Author.Rules.{rules}
 use Rattle.emptying.proofs.is_channel_going.Goals as goal
 
 pub returns : goal.returns

@@ -1,5 +1,4 @@
 use Rattle.emptying.specs.Taken.{waits}
-use borrow.Author.Rules.{rules}
 use Rattle.emptying.proofs.is_waiting.Goals as goal
 
 pub returns : goal.returns

@@ -1,5 +1,4 @@
 use Rattle.emptying.specs.Taken.{taken}
-use borrow.Author.Rules.{rules}
 use Rattle.emptying.proofs.take_entries.Goals as goal
 
 pub returns : goal.returns

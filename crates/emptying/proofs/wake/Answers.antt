@@ -1,6 +1,5 @@
 use mathlib.Core.Path.{sym, ◌∙◌}
 use Rattle.emptying.specs.Taken.{woken}
-use borrow.Author.Rules.{rules}
 use Rattle.emptying.proofs.wake.Goals as goal
 
 pub returns-then-is_waiting : goal.returns-then-is_waiting

@@ -1,12 +1,10 @@
 use Rattle.picture.specs.Layout.{positions}
 use Rattle.picture.specs.declared.Table.TheVariants.{Jobs}
-use mathlib.Core.Path.{◌≡◌, refl, sym, ap, ◌∙◌}
-use Prim.Native.Nat.{◌≤◌, ◌-◌}
+use mathlib.Core.Path.{◌≡◌, refl, ap, ◌∙◌}
+use Prim.Native.Nat.{◌-◌}
 use lib.ListN.{length}
 use Rattle.emptying.proofs.Steps.{each_more, length_woken}
-use Rattle.emptying.specs.Taken.{woken}
 use Rattle.emptying.specs.Each.{each}
-use borrow.Author.Rules.{rules}
 use native.Mathlib.Omega.{arith}
 use Rattle.emptying.proofs.wake_all.Goals as goal
 

@@ -1,5 +1,4 @@
 use Rattle.ending.specs.Ended.{ended}
-use borrow.Author.Rules.{rules}
 use Rattle.ending.proofs.end_tree.Goals as goal
 
 pub returns : goal.returns

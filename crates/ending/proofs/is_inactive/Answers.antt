@@ -1,15 +1,11 @@
 use Rattle.picture.specs.Layout.{positions}
 use Rattle.picture.specs.declared.Table.TheVariants.{Jobs}
 use Rattle.ending.specs.Remove.{at_rest}
-use mathlib.Core.Path.{◌≡◌, refl, sym, ap, ◌∙◌}
-use mathlib.Core.Bool.{true, false, not, ◌&&◌}
-use Prim.Native.Nat.{ℕ, ◌≤◌, ◌-◌}
-use Rattle.picture.specs.Records.{active}
+use mathlib.Core.Path.{◌≡◌, refl, sym, ap}
+use mathlib.Core.Bool.{true, false, not}
+use Prim.Native.Nat.{◌-◌}
 use Rattle.words.proofs.Each.{every_not, every_next}
-use Rattle.words.specs.Bits.{bit}
-use Rattle.words.specs.Each.{every}
 use Rattle.ending.specs.Remove.{inactive}
-use borrow.Author.Rules.{rules}
 use native.Mathlib.Omega.{arith}
 use Rattle.ending.proofs.is_inactive.Goals as goal
 

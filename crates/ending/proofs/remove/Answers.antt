@@ -1,13 +1,11 @@
 use mathlib.Core.Path.{◌≡◌, sym, ◌∙◌}
-use borrow.Author.Tests.{not-true, not-false}
-use Rattle.picture.specs.declared.JobFound.TheVariants.{At, Dead}
+use Rattle.picture.specs.declared.JobFound.TheVariants.{At}
 use Rattle.picture.specs.Numbers.{job_at}
-use Rattle.calls.proofs.Found.{Found, job_found}
+use Rattle.calls.proofs.Found.{job_found}
 use Rattle.calls.specs.Registers.{D1, meant}
 use Rattle.calls.proofs.Outcome.{meets_refuse, meets_succeed}
 use Rattle.sound.proofs.Room.{sound_tables}
 use Rattle.ending.proofs.Calls.{areas_within, remove_no_job, remove_job_0, remove_active, remove_ends}
-use borrow.Author.Rules.{rules}
 use Rattle.ending.proofs.remove.Goals as goal
 
 pub returns-in_default : goal.returns-in_default

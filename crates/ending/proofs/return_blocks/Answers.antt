@@ -1,5 +1,4 @@
 use Rattle.ending.specs.Ended.{returned}
-use borrow.Author.Rules.{rules}
 use Rattle.ending.proofs.return_blocks.Goals as goal
 
 pub returns : goal.returns

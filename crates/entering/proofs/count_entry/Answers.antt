@@ -6,7 +6,6 @@ use Rattle.picture.specs.declared.Table.TheVariants.{Jobs, Channels}
 use Rattle.picture.proofs.Members.{positions_within, length_with_members}
 use Rattle.masks.proofs.Masks.{with_bit_fits}
 use Rattle.entering.specs.Entry.{counted}
-use borrow.Author.Rules.{rules}
 use Rattle.entering.proofs.count_entry.Goals as goal
 
 within : (t : Table) (n : ℕ) → heap_base ≤ n → last_word t < n

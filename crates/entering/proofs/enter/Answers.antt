@@ -1,7 +1,6 @@
 use native.Mathlib.Omega.{arith}
 use Rattle.picture.proofs.Records.{positions_named}
 use Rattle.entering.specs.Entry.{entered}
-use borrow.Author.Rules.{rules}
 use Rattle.entering.proofs.enter.Goals as goal
 
 pub number_of-requires : goal.number_of-requires

@@ -2,8 +2,7 @@ use Rattle.errors.specs.Text.{spot_of, spot_key, error_key}
 use mir.ValLaws.{to_z-of_z}
 use mir.Syntax.{w32}
 use lib.IntN.{ℤ}
-use mathlib.Core.Path.{◌≡◌, sym, ◌∙◌, ap}
-use borrow.Author.Rules.{rules}
+use mathlib.Core.Path.{sym, ◌∙◌, ap}
 use Rattle.errors.proofs.error_key.Goals as goal
 
 pub returns-in-System : goal.returns-in-System

@@ -5,10 +5,9 @@ use lib.IntN.{ℤ}
 use lib.ListN.{take, drop}
 use mir.Syntax.{w32}
 use mir.ValLaws.{to_z-of_z}
-use Rattle.errors.specs.Text.{spot_of, Answer, Lies}
+use Rattle.errors.specs.Text.{spot_of}
 use Rattle.errors.specs.declared.Spot.TheVariants.{System, Driver, Nowhere}
 use Rattle.errors.proofs.Laws.{system_within, driver_within}
-use borrow.Author.Rules.{rules}
 use Rattle.errors.proofs.error_text.Goals as goal
 
 pub overflow_add-result : goal.overflow_add-result

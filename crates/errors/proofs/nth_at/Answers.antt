@@ -1,9 +1,8 @@
 use native.Mathlib.Nat.{sub-zero}
 use Rattle.errors.specs.declared.Place.TheVariants.{At}
 use Rattle.errors.proofs.Laws.{inside, nth_step, nth_cut}
-use borrow.Author.Rules.{rules}
 use native.Mathlib.Omega.{arith}
-use mathlib.Core.Path.{◌≡◌, refl, sym, ◌∙◌, ap}
+use mathlib.Core.Path.{◌≡◌, sym, ◌∙◌, ap}
 use Prim.Native.Nat.{ℕ, ◌+◌, ◌-◌, ◌≤◌}
 use lib.ListN.{length}
 use Rattle.errors.specs.Text.{nth_at, string_at}

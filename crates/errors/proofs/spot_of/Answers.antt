@@ -1,10 +1,9 @@
 use mir.Syntax.{w32}
 use mir.Val.{of_z}
 use mir.ValLaws.{to_z-of_z}
-use mathlib.Core.Path.{◌≡◌, sym, ◌∙◌, ap}
+use mathlib.Core.Path.{sym, ◌∙◌, ap}
 use Rattle.errors.specs.Text.{string_at, in_system, in_driver}
 use Rattle.errors.proofs.Laws.{spot_zero, spot_driver, spot_system, spot_far}
-use borrow.Author.Rules.{rules}
 use Rattle.errors.proofs.spot_of.Goals as goal
 
 pub returns-then-b-eq0 : goal.returns-then-b-eq0

@@ -1,4 +1,3 @@
-use borrow.Author.Rules.{rules}
 use native.Mathlib.Omega.{arith}
 use Rattle.errors.proofs.Laws.{cut, whole}
 use Rattle.errors.proofs.string_at.Goals as goal

@@ -3,7 +3,6 @@ use Rattle.freeing.specs.Sweep.{absorbed}
 use Rattle.blocks.proofs.Walk.{next_up}
 use mathlib.Core.Path.{◌∙◌}
 use Prim.Native.Nat.{◌<◌, ◌≤◌}
-use borrow.Author.Rules.{rules}
 use Rattle.freeing.proofs.absorb_block.Goals as goal
 
 pub overflow_sub-end : goal.overflow_sub-end

@@ -1,5 +1,4 @@
 use Rattle.freeing.specs.Sweep.{freed}
-use borrow.Author.Rules.{rules}
 use Rattle.freeing.proofs.free_block.Goals as goal
 
 pub returns-then-is_going : goal.returns-then-is_going

@@ -1,5 +1,4 @@
 use Rattle.freeing.specs.Sweep.{goes}
-use borrow.Author.Rules.{rules}
 use Rattle.freeing.proofs.is_going.Goals as goal
 
 pub returns : goal.returns

@@ -1,6 +1,5 @@
 use borrow.Author.Tests.{lt-ltb, le-ltb}
 use mathlib.Core.Path.{◌∙◌}
-use borrow.Author.Rules.{rules}
 use Rattle.freeing.proofs.is_named.Goals as goal
 
 pub returns-then-k-lt-JOBS : goal.returns-then-k-lt-JOBS

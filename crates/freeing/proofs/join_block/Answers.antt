@@ -3,7 +3,6 @@ use Rattle.freeing.specs.Sweep.{joined}
 use Rattle.words.proofs.Tests.{both}
 use borrow.Author.Tests.{ltb-true}
 use mathlib.Core.Path.{◌∙◌}
-use borrow.Author.Rules.{rules}
 use Rattle.freeing.proofs.join_block.Goals as goal
 
 pub absorb_block-requires : goal.absorb_block-requires

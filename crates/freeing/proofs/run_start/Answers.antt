@@ -1,7 +1,6 @@
 use Rattle.freeing.specs.Sweep.{run}
 use borrow.Author.Tests.{lt-ltb, le-ltb, eq-eqb, ne_eqb}
 use mathlib.Core.Path.{sym, ◌∙◌}
-use borrow.Author.Rules.{rules}
 use Rattle.freeing.proofs.run_start.Goals as goal
 
 pub returns-then-word-ne-FREE : goal.returns-then-word-ne-FREE

@@ -1,11 +1,9 @@
 use Rattle.freeing.proofs.Steps.{length_freed, length_joined, sweep_end, sweep_more}
-use Rattle.freeing.specs.Sweep.{sweep, swept}
+use Rattle.freeing.specs.Sweep.{swept}
 use Rattle.blocks.proofs.Walk.{next_falls}
-use Rattle.blocks.specs.Walk.{starts}
 use lib.ListN.{length}
 use Prim.Native.Nat.{◌-◌}
-use mathlib.Core.Path.{◌≡◌, refl, sym, ap, ◌∙◌}
-use borrow.Author.Rules.{rules}
+use mathlib.Core.Path.{refl, sym, ap, ◌∙◌}
 use Rattle.freeing.proofs.sweep.Goals as goal
 
 pub loop-i-init : goal.loop-i-init

@@ -1,11 +1,8 @@
-use Rattle.freeing.proofs.Steps.{length_freed, length_joined, sweep_end, sweep_more}
-use Rattle.freeing.specs.Sweep.{sweep, swept}
-use Rattle.blocks.proofs.Walk.{next_falls}
+use Rattle.freeing.specs.Sweep.{sweep}
 use Rattle.blocks.specs.Walk.{starts}
 use lib.ListN.{length}
 use Prim.Native.Nat.{◌-◌}
-use mathlib.Core.Path.{◌≡◌, refl, sym, ap, ◌∙◌}
-use borrow.Author.Rules.{rules}
+use mathlib.Core.Path.{◌≡◌}
 use Rattle.freeing.proofs.sweep.Given as goal
 
 abbrev pub invariant-loop-i : goal.invariant-loop-i

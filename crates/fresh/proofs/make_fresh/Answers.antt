@@ -1,11 +1,8 @@
-use Rattle.fresh.proofs.Good.{Sizes, sizes, refused, accepted, other_length, bad_size, bad_heap, all_good}
-use Rattle.fresh.specs.Fresh.{fresh_good, fresh_key, fresh_picture}
-use Rattle.words.proofs.Tests.{both}
-use borrow.Author.Tests.{eq-eqb, ne_eqb, not-true, not-false, leb-true, eqb-true}
-use mathlib.Core.Path.{◌≡◌, refl, sym, ◌∙◌}
+use Rattle.fresh.proofs.Good.{sizes, refused, accepted, other_length, bad_size, bad_heap, all_good}
+use Rattle.fresh.specs.Fresh.{fresh_good}
+use mathlib.Core.Path.{◌≡◌, sym, ◌∙◌}
 use mathlib.Core.Bool.{true}
 use lib.ListN.{length}
-use borrow.Author.Rules.{rules}
 use Rattle.fresh.proofs.make_fresh.Goals as goal
 
 pub returns-then-p-n : goal.returns-then-p-n

@@ -1,7 +1,5 @@
 use Rattle.fresh.proofs.Clear.{cleared_all}
 use Rattle.fresh.specs.Fresh.{fresh}
-use mathlib.Core.Path.{sym, ◌∙◌}
-use borrow.Author.Rules.{rules}
 use Rattle.fresh.proofs.write_fresh.Goals as goal
 
 pub returns : goal.returns

@@ -1,7 +1,6 @@
 use Rattle.headers.proofs.Header.{header_past_the_end}
 use Rattle.headers.specs.Header.{header}
 use mathlib.Core.Path.{sym}
-use borrow.Author.Rules.{rules}
 use Rattle.headers.proofs.put_header.Goals as goal
 
 pub returns-then-i-p : goal.returns-then-i-p

@@ -1,8 +1,7 @@
 use Rattle.jobs.proofs.Ways.{activate_lost, activate_active, activate_bad, activate_bad_wait, activate_done}
 use Rattle.timeouts.specs.Timeout.{timeout_in}
 use Rattle.jobs.proofs.Found.{Found, found, lost}
-use mathlib.Core.Path.{ap, sym, ◌∙◌}
-use borrow.Author.Rules.{rules}
+use mathlib.Core.Path.{ap, ◌∙◌}
 use Rattle.jobs.proofs.activate.Goals as goal
 
 pub returns-in_default : goal.returns-in_default

@@ -2,7 +2,6 @@ use mathlib.Core.Path.{refl}
 use Rattle.calls.proofs.Outcome.{meets_succeed}
 use Rattle.calls.specs.Call.{outcome}
 use Rattle.jobs.specs.Calls.{information}
-use borrow.Author.Rules.{rules}
 use Rattle.jobs.proofs.information.Goals as goal
 
 pub returns : goal.returns

@@ -1,7 +1,6 @@
 use Rattle.jobs.proofs.Ways.{release_lost, release_done}
 use Rattle.jobs.proofs.Found.{Found, found, lost}
-use mathlib.Core.Path.{ap, sym, ◌∙◌}
-use borrow.Author.Rules.{rules}
+use mathlib.Core.Path.{◌∙◌}
 use Rattle.jobs.proofs.release.Goals as goal
 
 pub returns-in_default : goal.returns-in_default

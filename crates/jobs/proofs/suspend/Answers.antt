@@ -1,10 +1,9 @@
 use Rattle.jobs.proofs.Ways.{suspend_lost, suspend_bad, suspend_done}
 use Rattle.timeouts.specs.Timeout.{timeout_in}
 use Rattle.jobs.proofs.Found.{Found, found, lost}
-use mathlib.Core.Path.{ap, sym, ◌∙◌}
+use mathlib.Core.Path.{ap, ◌∙◌}
 use mir.Syntax.{w32}
 use mir.ValLaws.{to_z-of_z}
-use borrow.Author.Rules.{rules}
 use Rattle.jobs.proofs.suspend.Goals as goal
 
 pub returns-in_default : goal.returns-in_default

@@ -1,17 +1,15 @@
-use mathlib.Core.Path.{◌≡◌, refl, sym, ◌∙◌}
+-- The lines that are left to be stored are the same as at the start.
 use Prim.Native.Nat.{◌-◌, ◌*◌}
-use lib.ListN.{length, length-set}
+use mathlib.Core.Path.{◌≡◌}
 use lib.Seq.{sets}
 use Rattle.report_lines.specs.Order.{lines_from}
 use Rattle.krowjyvan.specs.Lines.{lines_longwords}
-use Rattle.krowjyvan.proofs.Lines.{line_more, lines_end}
-use borrow.Author.Rules.{rules}
-use native.Mathlib.Omega.{arith}
 use Rattle.krowjyvan.proofs.put_lines.Given as goal
 
--- The lines that are left to be stored are the same as at the start.
 abbrev pub invariant-loop-i : goal.invariant-loop-i
-invariant-loop-i l = (length l.table ≡ length l.initial.table) × (sets l.initial.table 0 (lines_longwords (lines_from l.begun.count l.p l.begun.members l.begun.top l.top)) ≡ sets l.table (5 * l.i) (lines_longwords (lines_from (l.begun.count - l.i) l.p l.begun.members l.begun.top l.number)))
+invariant-loop-i l =
+    sets l.initial.table 0 (lines_longwords (lines_from l.begun.count l.p l.begun.members l.begun.top l.top))
+    ≡ sets l.table (5 * l.i) (lines_longwords (lines_from (l.begun.count - l.i) l.p l.begun.members l.begun.top l.number))
 
 abbrev pub decreases-loop-i : goal.decreases-loop-i
 decreases-loop-i l = l.begun.count - l.i

@@ -1,12 +1,9 @@
 use Rattle.manager.proofs.Door.{checked_unsound, checked_nobody, checked_named, named_one, named_two, named_three, named_unknown, meets_equal}
 use Rattle.calls.proofs.Outcome.{meets_refuse}
-use Rattle.sound.specs.Sound.{sound}
-use borrow.Author.Tests.{not-true, not-false}
 use mir.ValLaws.{to_z-of_z}
 use mir.Syntax.{w32}
 use mathlib.Core.Bool.{true}
-use mathlib.Core.Path.{◌≡◌, refl, sym, ◌∙◌}
-use borrow.Author.Rules.{rules}
+use mathlib.Core.Path.{sym, ◌∙◌}
 use native.Mathlib.Omega.{arith}
 use Rattle.manager.proofs.answer_call.Goals as goal
 

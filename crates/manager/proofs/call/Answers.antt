@@ -2,10 +2,7 @@ use Rattle.manager.proofs.Door.{called_otherwise, called_with_eight, meets_equal
 use Rattle.calls.proofs.Outcome.{meets_refuse}
 use Rattle.words.specs.Words.{put}
 use mir.ValLaws.{to_z-of_z}
-use mir.Val.{of_z}
 use mir.Syntax.{w32}
-use mathlib.Core.Path.{◌≡◌, refl, sym, ap, ◌∙◌}
-use borrow.Author.Rules.{rules}
 use Rattle.manager.proofs.call.Goals as goal
 
 pub returns-then-d-ne-REGISTERS : goal.returns-then-d-ne-REGISTERS

@@ -1,7 +1,5 @@
 use mir.ValLaws.{to_z-of_z}
 use mir.Syntax.{w32}
-use mathlib.Core.Path.{◌≡◌, sym, ◌∙◌, ap}
-use borrow.Author.Rules.{rules}
 use Rattle.manager.proofs.error_text.Goals as goal
 
 pub returns : goal.returns

@@ -1,8 +1,6 @@
 use Rattle.sound.proofs.Room.{sound_tables}
 use Rattle.manager.specs.Turn.{tick_key, ticking}
-use borrow.Author.Tests.{not-true, not-false}
-use mathlib.Core.Path.{refl, sym, ◌∙◌}
-use borrow.Author.Rules.{rules}
+use mathlib.Core.Path.{sym, ◌∙◌}
 use Rattle.manager.proofs.tick.Goals as goal
 
 pub returns-then-not-may_tick : goal.returns-then-not-may_tick

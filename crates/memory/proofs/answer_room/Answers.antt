@@ -1,5 +1,4 @@
 use Rattle.memory.specs.Memory.{room_registers}
-use borrow.Author.Rules.{rules}
 use Rattle.memory.proofs.answer_room.Goals as goal
 
 pub returns : goal.returns

@@ -1,12 +1,10 @@
 use native.Mathlib.Omega.{arith}
-use borrow.Author.Tests.{not-false, not-true}
 use mathlib.Core.Path.{sym, ◌∙◌}
 use Rattle.picture.specs.declared.Area.TheVariants.{Heap}
 use Rattle.calls.proofs.Outcome.{meets_refuse, meets_succeed}
 use Rattle.rooms.proofs.Sizes.{areas_lie_in_a_sound_picture}
 use Rattle.memory.specs.Memory.{given_back}
 use Rattle.memory.proofs.Ways.{give_back_bad, give_back_done}
-use borrow.Author.Rules.{rules}
 use Rattle.memory.proofs.give_back.Goals as goal
 
 pub returns-then-not-is_plain_room : goal.returns-then-not-is_plain_room

@@ -1,5 +1,4 @@
 use Rattle.memory.specs.Memory.{plain_room}
-use borrow.Author.Rules.{rules}
 use Rattle.memory.proofs.is_plain_at.Goals as goal
 
 pub returns : goal.returns

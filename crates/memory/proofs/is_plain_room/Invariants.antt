@@ -1,12 +1,8 @@
-use mathlib.Core.Path.{◌≡◌, refl, sym, ◌∙◌}
+use mathlib.Core.Path.{◌≡◌}
 use Prim.Native.Nat.{◌-◌}
 use Rattle.words.specs.Each.{any}
-use Rattle.blocks.proofs.Walk.{next_falls}
 use Rattle.blocks.specs.Walk.{starts}
-use Rattle.memory.specs.Memory.{plain_room, is_plain_room}
-use Rattle.memory.proofs.Ways.{any_end, any_here, any_more}
-use borrow.Author.Rules.{rules}
-use native.Mathlib.Omega.{arith}
+use Rattle.memory.specs.Memory.{plain_room}
 use Rattle.memory.proofs.is_plain_room.Given as goal
 
 abbrev pub invariant-loop-i : goal.invariant-loop-i

@@ -2,7 +2,6 @@ use mathlib.Core.Path.{refl}
 use Rattle.calls.proofs.Outcome.{meets_succeed}
 use Rattle.calls.specs.Call.{outcome}
 use Rattle.memory.specs.Memory.{longest_room}
-use borrow.Author.Rules.{rules}
 use Rattle.memory.proofs.longest_room.Goals as goal
 
 pub returns : goal.returns

@@ -1,12 +1,10 @@
 use native.Mathlib.Omega.{arith}
 use Rattle.rooms.proofs.Room.{placed_there}
-use borrow.Author.Tests.{not-false, not-true}
 use mathlib.Core.Path.{sym, ◌∙◌}
 use Rattle.picture.specs.declared.Area.TheVariants.{Heap}
 use Rattle.calls.proofs.Outcome.{meets_refuse}
 use Rattle.rooms.proofs.Sizes.{areas_lie_in_a_sound_picture}
 use Rattle.memory.proofs.Ways.{take_bad, take_dead, take_nowhere, take_there, length_small}
-use borrow.Author.Rules.{rules}
 use Rattle.memory.proofs.take.Goals as goal
 
 pub returns-then-not-is_length : goal.returns-then-not-is_length

@@ -1,6 +1,5 @@
 use Rattle.names.specs.Names.{digit}
 use borrow.Author.Rules.{rules}
-use native.Mathlib.Omega.{arith}
 use Rattle.names.proofs.is_digit.Goals as goal
 
 pub returns : goal.returns

@@ -1,5 +1,4 @@
 use Rattle.names.specs.Names.{good}
-use borrow.Author.Rules.{rules}
 use Rattle.names.proofs.is_good.Goals as goal
 
 pub returns-in-Pipe : goal.returns-in-Pipe

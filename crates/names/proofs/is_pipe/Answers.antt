@@ -1,5 +1,4 @@
 use Rattle.names.specs.Names.{pipe}
-use borrow.Author.Rules.{rules}
 use Rattle.names.proofs.is_pipe.Goals as goal
 
 pub returns : goal.returns

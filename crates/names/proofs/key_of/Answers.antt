@@ -1,6 +1,4 @@
-use mathlib.Core.Path.{sym, ap}
 use Rattle.names.specs.Names.{key_of}
-use borrow.Author.Rules.{rules}
 use Rattle.names.proofs.key_of.Goals as goal
 
 pub returns-in-Pipe : goal.returns-in-Pipe

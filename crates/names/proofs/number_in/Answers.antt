@@ -1,5 +1,4 @@
 use Rattle.names.specs.Names.{number_in}
-use borrow.Author.Rules.{rules}
 use Rattle.names.proofs.number_in.Goals as goal
 
 pub returns-in-Pipe : goal.returns-in-Pipe

@@ -1,7 +1,6 @@
 use Rattle.names.specs.Names.{named, byte}
-use borrow.Author.Tests.{not-true, not-false, eq-eqb, ne_eqb}
+use borrow.Author.Tests.{eq-eqb, ne_eqb}
 use mathlib.Core.Path.{sym, ◌∙◌}
-use borrow.Author.Rules.{rules}
 use Rattle.names.proofs.read_name.Goals as goal
 
 pub returns-then-not-is_pipe : goal.returns-then-not-is_pipe

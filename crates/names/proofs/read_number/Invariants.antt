@@ -1,13 +1,8 @@
-use Rattle.names.proofs.Digits.{digits_more, digits_not, worth_more, digits_end, worth_end, digit_is, digits_fit, five_fit, too_few, too_many, other_byte, too_small, too_great, just_right}
 use Rattle.names.specs.Names.{digit, worth}
 use Rattle.words.specs.Each.{all}
-use native.Mathlib.Numerals.{add-one}
-use borrow.Author.Tests.{not-true, not-false}
 use lib.ListN.{length, drop}
-use mathlib.Core.Path.{◌≡◌, refl, sym, ap, ◌∙◌}
-use Prim.Native.Nat.{suc, ◌+◌, ◌-◌, ◌*◌, ◌^◌, ◌≤◌, ◌<◌}
-use borrow.Author.Rules.{rules}
-use native.Mathlib.Omega.{arith}
+use mathlib.Core.Path.{◌≡◌}
+use Prim.Native.Nat.{◌-◌, ◌^◌, ◌≤◌, ◌<◌}
 use Rattle.names.proofs.read_number.Given as goal
 
 abbrev pub invariant-loop-i : goal.invariant-loop-i

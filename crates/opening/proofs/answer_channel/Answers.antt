@@ -1,5 +1,4 @@
 use Rattle.opening.specs.Effects.{channel_registers}
-use borrow.Author.Rules.{rules}
 use Rattle.opening.proofs.answer_channel.Goals as goal
 
 pub returns : goal.returns

@@ -1,5 +1,4 @@
 use Rattle.opening.specs.Effects.{channelled}
-use borrow.Author.Rules.{rules}
 use Rattle.opening.proofs.enter_channel.Goals as goal
 
 pub returns : goal.returns

@@ -1,17 +1,15 @@
 use native.Mathlib.Omega.{arith}
 use mathlib.Core.Path.{◌≡◌, sym, ap, ◌∙◌}
 use mathlib.Core.Bool.{true}
-use Prim.Native.Nat.{◌+◌, ◌<◌, ◌≤◌}
-use borrow.Author.Tests.{not-true, not-false}
+use Prim.Native.Nat.{◌<◌}
 use mir.Syntax.{w32}
 use mir.ValLaws.{to_z-of_z}
 use Rattle.words.specs.Words.{word}
-use Rattle.picture.specs.Layout.{positions, greatest_tag, upto}
+use Rattle.picture.specs.Layout.{positions, greatest_tag}
 use Rattle.picture.specs.Numbers.{job_at, free_position}
 use Rattle.picture.specs.declared.Table.TheVariants.{Channels}
 use Rattle.picture.specs.declared.JobFound.TheVariants.{At}
 use Rattle.picture.specs.declared.Area.TheVariants.{Heap}
-use Rattle.sound_areas.specs.Rules.{longest_queue}
 use Rattle.calls.specs.Registers.{meant}
 use Rattle.calls.proofs.Outcome.{meets_refuse}
 use Rattle.rooms.proofs.Room.{placed_there}
@@ -21,7 +19,6 @@ use Rattle.sound.proofs.Room.{sound_tables}
 use Rattle.entering.proofs.Vacant.{free_record_stays_zero}
 use Rattle.names.specs.Names.{key_of, good, number_in, named}
 use Rattle.opening.proofs.Ways.{open_dead, open_misnamed, open_no_position, open_no_tag, open_nowhere, open_there}
-use borrow.Author.Rules.{rules}
 use Rattle.opening.proofs.open_channel.Goals as goal
 
 pub returns-in_default : goal.returns-in_default

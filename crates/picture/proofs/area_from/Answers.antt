@@ -1,5 +1,4 @@
 use native.Mathlib.Omega.{arith}
-use borrow.Author.Rules.{rules}
 use Rattle.picture.proofs.area_from.Goals as goal
 
 pub returns-in-Transient : goal.returns-in-Transient

@@ -1,6 +1,5 @@
 use Rattle.picture.specs.Numbers.{channel_at}
 use mathlib.Core.Path.{sym, ◌∙◌}
-use borrow.Author.Rules.{rules}
 use Rattle.picture.proofs.channel_at.Goals as goal
 
 pub returns-then-is_live : goal.returns-then-is_live

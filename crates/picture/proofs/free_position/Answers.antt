@@ -1,8 +1,7 @@
-use mathlib.Core.Path.{sym, ◌∙◌}
+use mathlib.Core.Path.{◌∙◌}
 use Rattle.picture.proofs.Members.{positions_within}
 use Rattle.picture.specs.Numbers.{free_position}
-use Rattle.masks.proofs.Lowest.{Lowest, lowest_clear_is, lowest_clear_within}
-use borrow.Author.Rules.{rules}
+use Rattle.masks.proofs.Lowest.{lowest_clear_is, lowest_clear_within}
 use Rattle.picture.proofs.free_position.Goals as goal
 
 pub returns : goal.returns

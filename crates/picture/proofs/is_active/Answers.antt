@@ -1,5 +1,4 @@
 use Rattle.picture.specs.Records.{active}
-use borrow.Author.Rules.{rules}
 use Rattle.picture.proofs.is_active.Goals as goal
 
 pub returns : goal.returns

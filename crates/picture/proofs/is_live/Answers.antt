@@ -1,9 +1,7 @@
 use Rattle.picture.proofs.Records.{used_below, shared}
 use native.Mathlib.Omega.{arith}
 use Rattle.picture.specs.Numbers.{live}
-use borrow.Author.Tests.{not-true, not-false}
 use mathlib.Core.Path.{sym, ◌∙◌}
-use borrow.Author.Rules.{rules}
 use Rattle.picture.proofs.is_live.Goals as goal
 
 pub returns-then-not-is_used : goal.returns-then-not-is_used

@@ -1,7 +1,6 @@
 use Rattle.picture.specs.Records.{members}
 use Rattle.picture.proofs.Records.{used_is}
 use Rattle.picture.proofs.Members.{members_within, bits_of_positions}
-use borrow.Author.Rules.{rules}
 use Rattle.picture.proofs.is_member_at.Goals as goal
 
 pub word_at-requires : goal.word_at-requires

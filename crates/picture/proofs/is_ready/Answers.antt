@@ -2,7 +2,6 @@ use Rattle.picture.specs.Records.{ready}
 use lib.IntN.{pos}
 use native.Mathlib.Omega.{arith}
 use Rattle.words.proofs.Signed.{eqb_bits}
-use borrow.Author.Rules.{rules}
 use Rattle.picture.proofs.is_ready.Goals as goal
 
 pub returns : goal.returns

@@ -2,7 +2,6 @@ use Rattle.picture.specs.Records.{members}
 use Rattle.picture.proofs.Records.{used_past, used_is}
 use Rattle.picture.proofs.Members.{bits_of_positions}
 use mathlib.Core.Path.{sym}
-use borrow.Author.Rules.{rules}
 use Rattle.picture.proofs.is_used.Goals as goal
 
 pub returns-then-positions_of-k : goal.returns-then-positions_of-k

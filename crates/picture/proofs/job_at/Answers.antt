@@ -1,6 +1,5 @@
 use Rattle.picture.specs.Numbers.{job_at}
 use mathlib.Core.Path.{sym, ◌∙◌}
-use borrow.Author.Rules.{rules}
 use Rattle.picture.proofs.job_at.Goals as goal
 
 pub returns-then-is_live : goal.returns-then-is_live

@@ -1,7 +1,6 @@
 use native.Mathlib.Omega.{arith}
 use Rattle.picture.specs.Records.{members}
 use Rattle.picture.proofs.Members.{members_fit, members_within}
-use borrow.Author.Rules.{rules}
 use Rattle.picture.proofs.members_at.Goals as goal
 
 pub word_at-requires : goal.word_at-requires

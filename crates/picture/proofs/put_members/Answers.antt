@@ -1,6 +1,5 @@
 use Prim.Native.Nat.{◌<◌}
 use lib.ListN.{length}
-use native.Mathlib.Omega.{arith}
 use Rattle.picture.specs.Records.{with_members}
 use Rattle.picture.proofs.Members.{fit_members, members_within}
 use borrow.Author.Rules.{rules}

@@ -1,10 +1,4 @@
 use native.Mathlib.Omega.{arith}
-use Rattle.picture.specs.Records.{slot}
-use Rattle.picture.specs.Layout.{positions, width}
-use Rattle.picture.specs.declared.Table.{Table}
-use Prim.Native.Nat.{◌<◌}
-use mathlib.Core.Path.{◌≡◌, refl, sym, ap, ◌∙◌}
-use borrow.Author.Rules.{rules}
 use Rattle.picture.proofs.slot_of.Goals as goal
 
 pub overflow_mul-result : goal.overflow_mul-result

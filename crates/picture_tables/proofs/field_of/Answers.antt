@@ -1,4 +1,3 @@
-use borrow.Author.Rules.{rules}
 use Rattle.picture_tables.proofs.field_of.Goals as goal
 
 pub returns : goal.returns

@@ -1,9 +1,7 @@
 use Rattle.picture.proofs.Records.{used_below, shared}
 use Rattle.picture.specs.Numbers.{live}
-use borrow.Author.Tests.{not-true, not-false}
 use native.Mathlib.Omega.{arith}
 use mathlib.Core.Path.{sym, ◌∙◌}
-use borrow.Author.Rules.{rules}
 use Rattle.picture_tables.proofs.is_live.Goals as goal
 
 pub returns-then-not-is_used : goal.returns-then-not-is_used

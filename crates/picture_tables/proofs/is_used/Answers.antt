@@ -1,6 +1,5 @@
 use Rattle.picture.proofs.Records.{used_past}
 use mathlib.Core.Path.{sym}
-use borrow.Author.Rules.{rules}
 use Rattle.picture_tables.proofs.is_used.Goals as goal
 
 pub returns-then-positions_of-k : goal.returns-then-positions_of-k

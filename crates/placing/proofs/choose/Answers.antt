@@ -1,11 +1,8 @@
 use Rattle.placing.proofs.Walk.{first_end, first_here, first_more}
-use Rattle.placing.specs.Place.{fits, first, chosen}
+use Rattle.placing.specs.Place.{chosen}
 use Rattle.blocks.proofs.Walk.{next_falls}
-use Rattle.blocks.specs.Walk.{starts}
 use Prim.Native.Nat.{◌-◌}
-use mathlib.Core.Logic.{⊎_elim}
-use mathlib.Core.Path.{◌≡◌, refl, sym, ◌∙◌}
-use borrow.Author.Rules.{rules}
+use mathlib.Core.Path.{refl, sym, ◌∙◌}
 use native.Mathlib.Omega.{arith}
 use Rattle.placing.proofs.choose.Goals as goal
 use Rattle.placing.proofs.choose.Goals.{else-loop-i-test, then-loop-i-test+then-is_fit}

@@ -1,12 +1,7 @@
-use Rattle.placing.proofs.Walk.{first_end, first_here, first_more}
-use Rattle.placing.specs.Place.{fits, first, chosen}
-use Rattle.blocks.proofs.Walk.{next_falls}
+use Rattle.placing.specs.Place.{fits, first}
 use Rattle.blocks.specs.Walk.{starts}
 use Prim.Native.Nat.{◌-◌}
-use mathlib.Core.Logic.{⊎_elim}
-use mathlib.Core.Path.{◌≡◌, refl, sym, ◌∙◌}
-use borrow.Author.Rules.{rules}
-use native.Mathlib.Omega.{arith}
+use mathlib.Core.Path.{◌≡◌}
 use Rattle.placing.proofs.choose.Given as goal
 
 abbrev pub invariant-loop-i : goal.invariant-loop-i

@@ -1,5 +1,4 @@
 use Rattle.placing.specs.Place.{fits}
-use borrow.Author.Rules.{rules}
 use Rattle.placing.proofs.is_fit.Goals as goal
 
 pub returns : goal.returns

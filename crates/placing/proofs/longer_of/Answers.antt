@@ -1,5 +1,4 @@
 use Rattle.placing.specs.Place.{longer}
-use borrow.Author.Rules.{rules}
 use Rattle.placing.proofs.longer_of.Goals as goal
 
 pub returns-then-word-best : goal.returns-then-word-best

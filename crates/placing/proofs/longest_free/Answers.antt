@@ -1,10 +1,8 @@
 use Rattle.placing.proofs.Walk.{longest_end, longest_more}
-use Rattle.placing.specs.Place.{longest, longest_of}
+use Rattle.placing.specs.Place.{longest}
 use Rattle.blocks.proofs.Walk.{next_falls}
-use Rattle.blocks.specs.Walk.{starts}
 use Prim.Native.Nat.{◌-◌}
-use mathlib.Core.Path.{◌≡◌, refl, sym, ◌∙◌}
-use borrow.Author.Rules.{rules}
+use mathlib.Core.Path.{refl, sym, ◌∙◌}
 use Rattle.placing.proofs.longest_free.Goals as goal
 
 pub loop-i-init : goal.loop-i-init

@@ -1,10 +1,7 @@
-use Rattle.placing.proofs.Walk.{longest_end, longest_more}
-use Rattle.placing.specs.Place.{longest, longest_of}
-use Rattle.blocks.proofs.Walk.{next_falls}
+use Rattle.placing.specs.Place.{longest_of}
 use Rattle.blocks.specs.Walk.{starts}
 use Prim.Native.Nat.{◌-◌}
-use mathlib.Core.Path.{◌≡◌, refl, sym, ◌∙◌}
-use borrow.Author.Rules.{rules}
+use mathlib.Core.Path.{◌≡◌}
 use Rattle.placing.proofs.longest_free.Given as goal
 
 abbrev pub invariant-loop-i : goal.invariant-loop-i

@@ -3,7 +3,6 @@ use Rattle.placing.proofs.Chosen.{chosen_is_free_and_enough}
 use Rattle.placing.specs.Place.{answer, after, chosen}
 use borrow.Author.Tests.{lt-ltb, le-ltb}
 use Prim.Native.Nat.{◌<◌}
-use borrow.Author.Rules.{rules}
 use Rattle.placing.proofs.place.Goals as goal
 
 pub overflow_cast-n : goal.overflow_cast-n

@@ -1,6 +1,5 @@
 use Rattle.placing.proofs.Walk.{room_count}
 use Rattle.placing.specs.Place.{placed}
-use borrow.Author.Rules.{rules}
 use Rattle.placing.proofs.place_at.Goals as goal
 
 pub returns : goal.returns

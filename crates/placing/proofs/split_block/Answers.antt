@@ -1,6 +1,5 @@
 use Rattle.placing.specs.Place.{split}
 use borrow.Author.Tests.{le-ltb, lt-ltb}
-use borrow.Author.Rules.{rules}
 use Rattle.placing.proofs.split_block.Goals as goal
 
 pub returns-then-n-size : goal.returns-then-n-size

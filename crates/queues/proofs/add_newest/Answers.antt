@@ -1,7 +1,6 @@
 use native.Mathlib.Omega.{arith}
-use Rattle.queues.proofs.Ring.{index_below, full_not}
-use Rattle.queues.specs.Ring.{Ring, index, sent}
-use borrow.Author.Rules.{rules}
+use Rattle.queues.proofs.Ring.{index_below}
+use Rattle.queues.specs.Ring.{sent}
 use Rattle.queues.proofs.add_newest.Goals as goal
 
 pub write_byte-requires : goal.write_byte-requires

@@ -1,7 +1,6 @@
 use Rattle.queues.proofs.Ring.{round_below, round_above}
 use mathlib.Core.Path.{sym}
-use Rattle.queues.specs.Ring.{index, round}
-use borrow.Author.Rules.{rules}
+use Rattle.queues.specs.Ring.{index}
 use Rattle.queues.proofs.index_of.Goals as goal
 
 pub returns-then-x-n : goal.returns-then-x-n

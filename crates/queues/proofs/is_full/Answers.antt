@@ -1,5 +1,4 @@
 use Rattle.queues.specs.Ring.{full}
-use borrow.Author.Rules.{rules}
 use Rattle.queues.proofs.is_full.Goals as goal
 
 pub returns : goal.returns

@@ -1,5 +1,4 @@
 use Rattle.queues.specs.Ring.{waits}
-use borrow.Author.Rules.{rules}
 use Rattle.queues.proofs.is_waiting.Goals as goal
 
 pub returns : goal.returns

@@ -1,5 +1,4 @@
 use Rattle.queues.specs.Ring.{oldest_byte}
-use borrow.Author.Rules.{rules}
 use Rattle.queues.proofs.oldest_of.Goals as goal
 
 pub returns : goal.returns

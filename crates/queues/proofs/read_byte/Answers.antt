@@ -1,6 +1,5 @@
 use Rattle.queues.proofs.Bytes.{weight_some}
-use Rattle.queues.specs.Bytes.{byte_at, weight}
-use borrow.Author.Rules.{rules}
+use Rattle.queues.specs.Bytes.{byte_at}
 use Rattle.queues.proofs.read_byte.Goals as goal
 
 pub nonzero_div-result : goal.nonzero_div-result

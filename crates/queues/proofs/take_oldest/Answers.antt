@@ -1,7 +1,6 @@
 use native.Mathlib.Omega.{arith}
 use Rattle.queues.proofs.Ring.{index_below, waits_some}
-use Rattle.queues.specs.Ring.{Ring, index, fetched}
-use borrow.Author.Rules.{rules}
+use Rattle.queues.specs.Ring.{fetched}
 use Rattle.queues.proofs.take_oldest.Goals as goal
 
 pub overflow_cast-next : goal.overflow_cast-next

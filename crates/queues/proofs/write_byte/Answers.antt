@@ -1,10 +1,7 @@
 use native.Mathlib.Omega.{arith}
-use mathlib.Core.Path.{◌≡◌}
 use Prim.Native.Nat.{◌<◌}
-use Rattle.words.specs.Words.{word}
 use Rattle.queues.proofs.Bytes.{Fits, byte_fits, quarter}
 use Rattle.queues.specs.Bytes.{with_byte_at, weight}
-use borrow.Author.Rules.{rules}
 use Rattle.queues.proofs.write_byte.Goals as goal
 
 pub nonzero_div-w : goal.nonzero_div-w

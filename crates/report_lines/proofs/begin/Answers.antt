@@ -1,8 +1,6 @@
 use mathlib.Core.Path.{refl, sym, ap, ◌∙◌}
-use borrow.Author.Tests.{not-true, not-false}
 use Rattle.report_lines.proofs.Report.{where_unsound, where_dead, where_short, where_told}
 use Rattle.report_lines.specs.Order.{size}
-use borrow.Author.Rules.{rules}
 use Rattle.report_lines.proofs.begin.Goals as goal
 
 pub returns-then-not-is_sound : goal.returns-then-not-is_sound

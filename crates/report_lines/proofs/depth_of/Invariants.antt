@@ -1,12 +1,9 @@
 use Prim.Native.Nat.{◌+◌, ◌<◌}
-use mathlib.Core.Path.{◌≡◌, refl}
+use mathlib.Core.Path.{◌≡◌}
 use Rattle.picture.specs.Layout.{positions}
 use Rattle.picture.specs.Numbers.{tag_weight}
 use Rattle.picture.specs.declared.Table.TheVariants.{Jobs}
 use Rattle.report_lines.specs.Line.{depth, depth_within}
-use Rattle.report_lines.proofs.Depth.{found_here, found_last, passes_up}
-use borrow.Author.Rules.{rules}
-use native.Mathlib.Omega.{arith}
 use Rattle.report_lines.proofs.depth_of.Given as goal
 
 abbrev pub invariant-loop-left : goal.invariant-loop-left

@@ -1,7 +1,6 @@
 use Rattle.report_lines.proofs.Line.{line_is}
 use Rattle.report_lines.specs.Order.{next}
 use mathlib.Core.Path.{◌∙◌}
-use borrow.Author.Rules.{rules}
 use Rattle.report_lines.proofs.line_of.Goals as goal
 
 pub returns : goal.returns

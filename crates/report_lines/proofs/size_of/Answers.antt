@@ -1,13 +1,8 @@
-use Prim.Native.Nat.{◌≤◌, ◌-◌}
-use mathlib.Core.Path.{◌≡◌, refl, sym, ◌∙◌}
-use mathlib.Core.Logic.{⊎_elim}
-use Rattle.words.specs.Bits.{bit}
-use Rattle.words.specs.Each.{count}
+use Prim.Native.Nat.{◌-◌}
+use mathlib.Core.Path.{◌≡◌, refl, ◌∙◌}
 use Rattle.picture.specs.Layout.{positions}
 use Rattle.picture.specs.declared.Table.TheVariants.{Jobs}
 use Rattle.report_lines.specs.Order.{size}
-use Rattle.report_lines.proofs.Size.{size_takes, size_passes}
-use borrow.Author.Rules.{rules}
 use native.Mathlib.Omega.{arith}
 use Rattle.report_lines.proofs.size_of.Goals as goal
 

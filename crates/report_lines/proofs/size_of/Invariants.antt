@@ -1,14 +1,9 @@
 use Prim.Native.Nat.{◌≤◌, ◌-◌}
-use mathlib.Core.Path.{◌≡◌, refl, sym, ◌∙◌}
-use mathlib.Core.Logic.{⊎_elim}
+use mathlib.Core.Path.{◌≡◌}
 use Rattle.words.specs.Bits.{bit}
 use Rattle.words.specs.Each.{count}
 use Rattle.picture.specs.Layout.{positions}
 use Rattle.picture.specs.declared.Table.TheVariants.{Jobs}
-use Rattle.report_lines.specs.Order.{size}
-use Rattle.report_lines.proofs.Size.{size_takes, size_passes}
-use borrow.Author.Rules.{rules}
-use native.Mathlib.Omega.{arith}
 use Rattle.report_lines.proofs.size_of.Given as goal
 
 abbrev pub invariant-loop-k : goal.invariant-loop-k

@@ -1,5 +1,5 @@
 -- The report is that of the first part of the table, and what stands behind it stays.
-use Rattle.std.proofs.Common.{◌≡◌, sym, ap, ◌∙◌, ℕ, ◌+◌, ◌≤◌, List, ◌++◌, length, take, drop, arith}
+use Rattle.std.proofs.Common.{◌≡◌, sym, ap, ◌∙◌, ℕ, ◌+◌, List, ◌++◌, length, take, drop, arith}
 use borrow.Author.Rules.{rules}
 use lib.ListN.{take-append-drop}
 use lib.Seq.{sets, length-take-le}

@@ -1,5 +1,5 @@
 -- A line at a time; at the end as many are written as the report has.
-use Rattle.std.proofs.Common.{◌≡◌, refl, sym, ap, ◌∙◌, ℕ, suc, ◌+◌, ◌-◌, ◌<◌, List, length, add-one, arith}
+use Rattle.std.proofs.Common.{◌≡◌, sym, ap, ◌∙◌, ℕ, suc, ◌+◌, ◌-◌, ◌<◌, List, length, add-one, arith}
 use borrow.Author.Rules.{rules}
 use lib.ListN.{set, length-set}
 use lib.Seq.{sets}

@@ -1,7 +1,6 @@
 use Rattle.sound.specs.Test.{half_fine}
 use Rattle.sound_whole.proofs.Room.{tables_within, area_within}
 use mathlib.Core.Path.{sym, ◌∙◌}
-use borrow.Author.Rules.{rules}
 use Rattle.sound.proofs.is_half_fine.Goals as goal
 
 pub walk_entries-walked-requires : goal.walk_entries-walked-requires

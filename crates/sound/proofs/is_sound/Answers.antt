@@ -1,8 +1,6 @@
 use Rattle.sound.proofs.Fused.{tested_is}
 use Rattle.sound.specs.Test.{tested}
-use borrow.Author.Tests.{not-true, not-false}
 use mathlib.Core.Path.{sym, ◌∙◌}
-use borrow.Author.Rules.{rules}
 use Rattle.sound.proofs.is_sound.Goals as goal
 
 pub returns-then-not-is_whole_fine : goal.returns-then-not-is_whole_fine

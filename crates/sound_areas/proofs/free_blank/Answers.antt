@@ -1,5 +1,4 @@
 use Rattle.sound_areas.specs.Rules.{free_blank}
-use borrow.Author.Rules.{rules}
 use Rattle.sound_areas.proofs.free_blank.Goals as goal
 
 pub returns : goal.returns

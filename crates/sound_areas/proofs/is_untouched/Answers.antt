@@ -1,7 +1,6 @@
 use native.Mathlib.Omega.{arith}
 use Rattle.blocks.proofs.Walk.{next_le}
 use Rattle.sound_areas.specs.Rules.{untouched}
-use borrow.Author.Rules.{rules}
 use Rattle.sound_areas.proofs.is_untouched.Goals as goal
 
 pub overflow_add-next : goal.overflow_add-next

@@ -1,5 +1,4 @@
 use Rattle.sound_areas.specs.Rules.{tiles}
-use borrow.Author.Rules.{rules}
 use Rattle.sound_areas.proofs.is_within.Goals as goal
 
 pub returns : goal.returns

@@ -1,5 +1,4 @@
 use Rattle.sound_areas.specs.Rules.{length_whole}
-use borrow.Author.Rules.{rules}
 use Rattle.sound_areas.proofs.length_whole.Goals as goal
 
 pub returns : goal.returns

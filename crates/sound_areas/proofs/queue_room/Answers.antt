@@ -1,6 +1,5 @@
 use Rattle.sound_areas.specs.Rules.{queue_room}
 use borrow.Author.Tests.{ne_eqb, eq-eqb}
-use borrow.Author.Rules.{rules}
 use Rattle.sound_areas.proofs.queue_room.Goals as goal
 
 pub returns-then-word-ne-QUEUE : goal.returns-then-word-ne-QUEUE

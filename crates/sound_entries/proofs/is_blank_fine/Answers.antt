@@ -1,7 +1,6 @@
 use borrow.Author.Tests.{le-leb}
 use native.Mathlib.Omega.{arith}
 use Rattle.sound_entries.specs.Entries.{blank_fine}
-use borrow.Author.Rules.{rules}
 use Rattle.sound_entries.proofs.is_blank_fine.Goals as goal
 
 pub is_job_zero-requires : goal.is_job_zero-requires

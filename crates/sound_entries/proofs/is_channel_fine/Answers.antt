@@ -1,6 +1,5 @@
 use Rattle.sound_entries.specs.Entries.{live_fine}
 use Rattle.words.proofs.Tests.{fails, passes_here}
-use borrow.Author.Rules.{rules}
 use Rattle.sound_entries.proofs.is_channel_fine.Goals as goal
 
 pub returns-then-not-is_entry_fine : goal.returns-then-not-is_entry_fine

@@ -1,6 +1,5 @@
 use Rattle.sound_entries.specs.Entries.{entry_fine}
 use Rattle.words.proofs.Tests.{fails, passes_here}
-use borrow.Author.Rules.{rules}
 use Rattle.sound_entries.proofs.is_entry_fine.Goals as goal
 
 pub returns-then-not-is_positioned : goal.returns-then-not-is_positioned

@@ -1,5 +1,4 @@
 use Rattle.sound_entries.specs.Entries.{live_fine}
-use borrow.Author.Rules.{rules}
 use Rattle.sound_entries.proofs.is_live_fine.Goals as goal
 
 pub is_job_fine-requires : goal.is_job_fine-requires

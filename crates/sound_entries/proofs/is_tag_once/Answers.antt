@@ -3,7 +3,6 @@ use native.Mathlib.Omega.{arith}
 use borrow.Author.Tests.{eq-eqb, ne_eqb, le-leb, lt-leb}
 use Rattle.picture.proofs.Members.{positions_within}
 use Rattle.sound_entries.specs.Entries.{told_once, with_note}
-use borrow.Author.Rules.{rules}
 use Rattle.sound_entries.proofs.is_tag_once.Goals as goal
 
 pub overflow_add-seen : goal.overflow_add-seen

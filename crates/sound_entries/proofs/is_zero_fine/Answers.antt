@@ -1,7 +1,6 @@
 use Rattle.sound_entries.specs.Entries.{zero_fine}
 use Rattle.sound_records.specs.Rules.{zero_exists, zero_base, zero_unowned}
 use borrow.Author.Tests.{ne_eqb}
-use borrow.Author.Rules.{rules}
 use Rattle.sound_entries.proofs.is_zero_fine.Goals as goal
 
 pub returns-then-k-ne0 : goal.returns-then-k-ne0

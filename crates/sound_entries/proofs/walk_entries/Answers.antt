@@ -1,12 +1,9 @@
-use Rattle.sound_entries.proofs.Passed.{Passed, passed_none, passed_blank, passed_live, not_blank, not_live, not_once, passed_all}
-use Rattle.sound_matching.specs.Match.{first}
+use Rattle.sound_entries.proofs.Passed.{passed_none, passed_blank, passed_live, not_blank, not_live, not_once, passed_all}
 use Rattle.sound_entries.specs.Entries.{several}
-use Rattle.picture.specs.Layout.{positions}
 use Rattle.picture.proofs.Records.{shared}
 use Rattle.picture.proofs.Members.{positions_within}
-use borrow.Author.Tests.{not-true, not-false}
 use mathlib.Core.Path.{◌≡◌, sym, ◌∙◌}
-use Prim.Native.Nat.{◌-◌, ◌≤◌, ◌<◌}
+use Prim.Native.Nat.{◌-◌, ◌<◌}
 use borrow.Author.Rules.{rules}
 use native.Mathlib.Omega.{arith}
 use Rattle.sound_entries.proofs.walk_entries.Goals as goal

@@ -1,6 +1,5 @@
 use Rattle.sound_records.specs.Rules.{idle_zero}
 use borrow.Author.Tests.{eq-eqb, ne_eqb}
-use borrow.Author.Rules.{rules}
 use Rattle.sound_job_records.proofs.idle_zero.Goals as goal
 
 pub returns-then-field_of-eq0 : goal.returns-then-field_of-eq0

@@ -1,6 +1,5 @@
 use Rattle.words.proofs.Tests.{same_tests}
 use Rattle.picture.specs.Records.{all_zero}
-use borrow.Author.Rules.{rules}
 use Rattle.sound_job_records.proofs.is_job_zero.Goals as goal
 
 pub returns : goal.returns

@@ -1,5 +1,4 @@
 use Rattle.sound_records.specs.Rules.{owner_older}
-use borrow.Author.Rules.{rules}
 use Rattle.sound_job_records.proofs.owner_older.Goals as goal
 
 pub returns : goal.returns

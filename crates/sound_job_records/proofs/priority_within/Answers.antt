@@ -1,5 +1,4 @@
 use Rattle.sound_records.specs.Rules.{priority_within}
-use borrow.Author.Rules.{rules}
 use Rattle.sound_job_records.proofs.priority_within.Goals as goal
 
 pub returns : goal.returns

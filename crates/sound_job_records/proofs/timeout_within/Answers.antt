@@ -1,7 +1,6 @@
 use mir.Syntax.{w32}
 use mir.ValLaws.{to_z-of_z}
 use Rattle.sound_records.specs.Rules.{timeout_within}
-use borrow.Author.Rules.{rules}
 use Rattle.sound_job_records.proofs.timeout_within.Goals as goal
 
 pub returns : goal.returns

@@ -3,7 +3,6 @@ use borrow.Author.Tests.{eq-eqb, ne_eqb}
 use native.Mathlib.Omega.{arith}
 use Rattle.words.proofs.Signed.{eqb_bits}
 use Rattle.picture.specs.Layout.{without_end}
-use borrow.Author.Rules.{rules}
 use Rattle.sound_job_records.proofs.wait_allowed.Goals as goal
 
 pub returns-then-waited-eq0 : goal.returns-then-waited-eq0

@@ -1,5 +1,4 @@
 use Rattle.sound_records.specs.Rules.{zero_unowned}
-use borrow.Author.Rules.{rules}
 use Rattle.sound_job_records.proofs.zero_unowned.Goals as goal
 
 pub returns : goal.returns

@@ -5,8 +5,7 @@ use Rattle.words.proofs.Each.{every_next}
 use Rattle.picture.specs.Layout.{positions}
 use mathlib.Core.Bool.{true, not}
 use mathlib.Core.Path.{◌≡◌, refl, sym, ap, ◌∙◌}
-use Prim.Native.Nat.{ℕ, ◌-◌, ◌≤◌}
-use borrow.Author.Rules.{rules}
+use Prim.Native.Nat.{ℕ, ◌-◌}
 use native.Mathlib.Omega.{arith}
 use Rattle.sound_matching.proofs.is_agreed.Goals as goal
 

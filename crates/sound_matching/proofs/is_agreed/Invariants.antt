@@ -1,13 +1,9 @@
-use Rattle.sound_matching.proofs.Agreeing.{agreed_at, agreed_none}
 use Rattle.sound_matching.specs.Agreed.{agrees}
 use Rattle.words.specs.Each.{every}
-use Rattle.words.proofs.Each.{every_next}
 use Rattle.picture.specs.Layout.{positions}
 use mathlib.Core.Bool.{true, not}
-use mathlib.Core.Path.{◌≡◌, refl, sym, ap, ◌∙◌}
+use mathlib.Core.Path.{◌≡◌}
 use Prim.Native.Nat.{ℕ, ◌-◌, ◌≤◌}
-use borrow.Author.Rules.{rules}
-use native.Mathlib.Omega.{arith}
 use Rattle.sound_matching.proofs.is_agreed.Given as goal
 
 abbrev pub invariant-loop-k : goal.invariant-loop-k

@@ -1,6 +1,5 @@
 use Rattle.sound_matching.specs.Agreed.{agreed_as_noted}
 use borrow.Author.Tests.{lt-ltb, le-ltb}
-use borrow.Author.Rules.{rules}
 use Rattle.sound_matching.proofs.is_agreed_as_noted.Goals as goal
 
 pub returns-then-positions_of-k : goal.returns-then-positions_of-k

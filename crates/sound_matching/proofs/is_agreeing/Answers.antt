@@ -2,7 +2,6 @@ use Rattle.picture.proofs.Records.{shared}
 use Rattle.sound_matching.specs.Agreed.{agrees}
 use native.Mathlib.Omega.{arith}
 use borrow.Author.Tests.{eq-eqb, ne_eqb}
-use borrow.Author.Rules.{rules}
 use Rattle.sound_matching.proofs.is_agreeing.Goals as goal
 
 pub field_of-requires : goal.field_of-requires

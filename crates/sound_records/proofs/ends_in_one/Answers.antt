@@ -1,5 +1,4 @@
 use Rattle.sound_records.specs.Rules.{ends_in_one}
-use borrow.Author.Rules.{rules}
 use Rattle.sound_records.proofs.ends_in_one.Goals as goal
 
 pub returns : goal.returns

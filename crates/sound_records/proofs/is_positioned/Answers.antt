@@ -1,7 +1,6 @@
 use Rattle.sound_records.specs.Rules.{positioned}
 use Rattle.picture.proofs.Records.{shared}
 use native.Mathlib.Omega.{arith}
-use borrow.Author.Rules.{rules}
 use Rattle.sound_records.proofs.is_positioned.Goals as goal
 
 pub field_of-requires : goal.field_of-requires

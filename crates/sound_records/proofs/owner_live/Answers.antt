@@ -1,7 +1,6 @@
 use Rattle.sound_records.specs.Rules.{owner_live}
 use Rattle.picture.proofs.Records.{shared}
 use native.Mathlib.Omega.{arith}
-use borrow.Author.Rules.{rules}
 use Rattle.sound_records.proofs.owner_live.Goals as goal
 
 pub field_of-owner-requires : goal.field_of-owner-requires

@@ -1,11 +1,9 @@
 use Rattle.sound_records.specs.Rules.{tags_differ}
 use Rattle.words.proofs.Each.{every_not, every_next}
 use Rattle.words.specs.Each.{every}
-use borrow.Author.Tests.{not-true, not-false}
 use mathlib.Core.Bool.{true}
 use mathlib.Core.Path.{◌≡◌, refl, sym, ap, ◌∙◌}
-use Prim.Native.Nat.{ℕ, ◌-◌, ◌≤◌}
-use borrow.Author.Rules.{rules}
+use Prim.Native.Nat.{◌-◌}
 use native.Mathlib.Omega.{arith}
 use Rattle.sound_records.proofs.tag_alone.Goals as goal
 

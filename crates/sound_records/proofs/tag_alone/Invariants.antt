@@ -1,12 +1,8 @@
 use Rattle.sound_records.specs.Rules.{tags_differ}
-use Rattle.words.proofs.Each.{every_not, every_next}
 use Rattle.words.specs.Each.{every}
-use borrow.Author.Tests.{not-true, not-false}
 use mathlib.Core.Bool.{true}
-use mathlib.Core.Path.{◌≡◌, refl, sym, ap, ◌∙◌}
-use Prim.Native.Nat.{ℕ, ◌-◌, ◌≤◌}
-use borrow.Author.Rules.{rules}
-use native.Mathlib.Omega.{arith}
+use mathlib.Core.Path.{◌≡◌}
+use Prim.Native.Nat.{◌-◌, ◌≤◌}
 use Rattle.sound_records.proofs.tag_alone.Given as goal
 
 abbrev pub invariant-loop-j : goal.invariant-loop-j

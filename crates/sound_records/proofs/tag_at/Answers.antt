@@ -1,6 +1,5 @@
 use Rattle.picture.proofs.Records.{shared}
 use native.Mathlib.Omega.{arith}
-use borrow.Author.Rules.{rules}
 use Rattle.sound_records.proofs.tag_at.Goals as goal
 
 pub field_of-requires : goal.field_of-requires

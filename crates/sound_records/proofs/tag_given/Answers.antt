@@ -1,6 +1,5 @@
 use Rattle.sound_records.specs.Rules.{tag_given}
 use Rattle.picture_tables.proofs.Within.{last_before}
-use borrow.Author.Rules.{rules}
 use Rattle.sound_records.proofs.tag_given.Goals as goal
 
 pub word_at-requires : goal.word_at-requires

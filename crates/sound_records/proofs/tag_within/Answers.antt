@@ -1,6 +1,5 @@
 use Rattle.sound_records.specs.Rules.{tag_within}
 use Rattle.sound_records.proofs.Used.{has_block_used}
-use borrow.Author.Rules.{rules}
 use Rattle.sound_records.proofs.tag_within.Goals as goal
 
 pub returns : goal.returns

@@ -3,7 +3,6 @@ use mathlib.Core.Bool.{Bool, true, false, ◌||◌, not}
 use borrow.Author.Tests.{eq-eqb, ne_eqb}
 use Rattle.picture.specs.Records.{used}
 use Rattle.sound_records.specs.Rules.{tags_differ}
-use borrow.Author.Rules.{rules}
 use Rattle.sound_records.proofs.tags_differ.Goals as goal
 
 -- a test beside one that passes, and beside one that fails

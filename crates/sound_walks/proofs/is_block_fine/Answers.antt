@@ -1,9 +1,8 @@
 use Rattle.sound_walks.specs.Walks.{block_fine}
 use Rattle.sound_walks.proofs.Left.{header_within}
-use borrow.Author.Tests.{eq-eqb, ne_eqb, not-true, not-false}
+use borrow.Author.Tests.{eq-eqb, ne_eqb}
 use mathlib.Core.Path.{sym, ◌∙◌}
 use native.Mathlib.Omega.{arith}
-use borrow.Author.Rules.{rules}
 use Rattle.sound_walks.proofs.is_block_fine.Goals as goal
 
 pub returns-then-not-length_whole : goal.returns-then-not-length_whole

@@ -1,7 +1,5 @@
 use Rattle.sound_walks.specs.Walks.{free_fine}
-use borrow.Author.Tests.{not-true, not-false}
 use mathlib.Core.Path.{sym, ◌∙◌}
-use borrow.Author.Rules.{rules}
 use Rattle.sound_walks.proofs.is_free_fine.Goals as goal
 
 pub returns-then-not-free_blank : goal.returns-then-not-free_blank

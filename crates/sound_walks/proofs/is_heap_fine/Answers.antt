@@ -1,8 +1,7 @@
 use Rattle.sound_walks.specs.Walks.{held_fine}
 use Rattle.sound_matching.proofs.Agreeing.{noted_agreed}
-use borrow.Author.Tests.{eq-eqb, ne_eqb, not-true, not-false}
+use borrow.Author.Tests.{eq-eqb, ne_eqb}
 use mathlib.Core.Path.{sym, ◌∙◌}
-use borrow.Author.Rules.{rules}
 use Rattle.sound_walks.proofs.is_heap_fine.Goals as goal
 
 pub returns-then-word_at-ne0 : goal.returns-then-word_at-ne0

@@ -1,4 +1,3 @@
-use borrow.Author.Rules.{rules}
 use Rattle.sound_walks.proofs.is_held_fine.Goals as goal
 
 pub returns-in-Jobs : goal.returns-in-Jobs

@@ -2,7 +2,6 @@ use Rattle.sound_walks.specs.Walks.{held_fine}
 use Rattle.sound_matching.proofs.Agreeing.{noted_agreed}
 use borrow.Author.Tests.{eq-eqb, ne_eqb}
 use mathlib.Core.Path.{sym, ◌∙◌}
-use borrow.Author.Rules.{rules}
 use Rattle.sound_walks.proofs.is_transient_fine.Goals as goal
 
 pub returns-then-word_at-ne-JOB : goal.returns-then-word_at-ne-JOB

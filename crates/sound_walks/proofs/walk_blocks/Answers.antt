@@ -1,9 +1,7 @@
-use Rattle.sound_walks.proofs.Left.{Left, fine_within, fine_next, left_first, left_next, left_broken, left_counted}
+use Rattle.sound_walks.proofs.Left.{fine_within, fine_next, left_first, left_next, left_broken, left_counted}
 use Rattle.blocks.proofs.Walk.{next_up, next_le, next_falls}
-use borrow.Author.Tests.{not-true, not-false}
 use mathlib.Core.Path.{sym, ◌∙◌}
 use Prim.Native.Nat.{◌-◌}
-use borrow.Author.Rules.{rules}
 use native.Mathlib.Omega.{arith}
 use Rattle.sound_walks.proofs.walk_blocks.Goals as goal
 

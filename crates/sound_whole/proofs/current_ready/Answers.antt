@@ -1,9 +1,8 @@
 use Rattle.picture.proofs.Numbers.{live_is}
 use Rattle.picture.proofs.Records.{used_below}
 use Rattle.sound_whole.specs.Whole.{current_ready}
-use borrow.Author.Tests.{not-true, not-false, eq-eqb, ne_eqb}
+use borrow.Author.Tests.{eq-eqb, ne_eqb}
 use mathlib.Core.Path.{sym, ◌∙◌}
-use borrow.Author.Rules.{rules}
 use Rattle.sound_whole.proofs.current_ready.Goals as goal
 
 pub returns-then-n : goal.returns-then-n

@@ -1,5 +1,4 @@
 use Rattle.sound_whole.specs.Whole.{heap_stated}
-use borrow.Author.Rules.{rules}
 use Rattle.sound_whole.proofs.heap_stated.Goals as goal
 
 pub returns : goal.returns

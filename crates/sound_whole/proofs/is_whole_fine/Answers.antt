@@ -1,6 +1,5 @@
 use Rattle.words.proofs.Tests.{same_tests}
 use Rattle.sound_whole.specs.Whole.{whole_fine}
-use borrow.Author.Rules.{rules}
 use Rattle.sound_whole.proofs.is_whole_fine.Goals as goal
 
 pub returns : goal.returns

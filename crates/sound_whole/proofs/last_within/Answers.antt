@@ -1,5 +1,4 @@
 use Rattle.sound_whole.specs.Whole.{last_within}
-use borrow.Author.Rules.{rules}
 use Rattle.sound_whole.proofs.last_within.Goals as goal
 
 pub returns : goal.returns

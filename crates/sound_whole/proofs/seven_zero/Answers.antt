@@ -1,5 +1,4 @@
 use Rattle.sound_whole.specs.Whole.{seven_zero}
-use borrow.Author.Rules.{rules}
 use Rattle.sound_whole.proofs.seven_zero.Goals as goal
 
 pub returns : goal.returns

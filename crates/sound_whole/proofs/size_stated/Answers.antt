@@ -1,5 +1,4 @@
 use Rattle.sound_whole.specs.Whole.{size_stated}
-use borrow.Author.Rules.{rules}
 use Rattle.sound_whole.proofs.size_stated.Goals as goal
 
 pub returns : goal.returns

@@ -12,7 +12,6 @@ use Rattle.picture.specs.Layout.{without_end}
 use Rattle.timeouts.specs.declared.Timeout.TheVariants.{Frames}
 use Rattle.timeouts.specs.Timeout.{timeout_of}
 use Rattle.timeouts.proofs.Cases.{half_zero, half_endless, half_below, half_above}
-use borrow.Author.Rules.{rules}
 use Rattle.timeouts.proofs.timeout_in.Goals as goal
 
 pub returns-then-half-eq0 : goal.returns-then-half-eq0

@@ -1,8 +1,5 @@
-use mathlib.Core.Path.{ap, sym, ◌∙◌}
-use mir.Syntax.{w32}
-use mir.ValLaws.{to_z-of_z}
+use mathlib.Core.Path.{ap, sym}
 use Rattle.timeouts.specs.Timeout.{value}
-use borrow.Author.Rules.{rules}
 use Rattle.timeouts.proofs.value_of.Goals as goal
 
 pub returns-in-Zero : goal.returns-in-Zero

@@ -4,8 +4,6 @@ use Rattle.calls.proofs.Outcome.{meets_refuse}
 use borrow.Author.Tests.{ne_eqb}
 use mir.ValLaws.{to_z-of_z}
 use mir.Syntax.{w32}
-use mathlib.Core.Path.{refl, sym, ◌∙◌}
-use borrow.Author.Rules.{rules}
 use native.Mathlib.Omega.{arith}
 use Rattle.traps.proofs.trap_two.Goals as goal
 

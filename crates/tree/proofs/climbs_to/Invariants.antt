@@ -1,12 +1,9 @@
 use Rattle.picture.specs.Numbers.{tag_weight}
-use mathlib.Core.Path.{◌≡◌, refl, sym, ◌∙◌}
+use mathlib.Core.Path.{◌≡◌}
 use Prim.Native.Nat.{◌<◌}
 use Rattle.picture.specs.declared.Table.TheVariants.{Jobs}
 use Rattle.picture.specs.Layout.{positions}
 use Rattle.tree.specs.Tree.{climbs}
-use Rattle.tree.proofs.Climb.{climbs_here, climbs_ends, climbs_stops, climbs_up}
-use borrow.Author.Rules.{rules}
-use native.Mathlib.Omega.{arith}
 use Rattle.tree.proofs.climbs_to.Given as goal
 
 abbrev pub invariant-loop-n : goal.invariant-loop-n

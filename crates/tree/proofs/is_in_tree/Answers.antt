@@ -1,6 +1,5 @@
 use mathlib.Core.Path.{sym, ◌∙◌}
 use Rattle.tree.specs.Tree.{in_tree}
-use borrow.Author.Rules.{rules}
 use Rattle.tree.proofs.is_in_tree.Goals as goal
 
 pub returns-then-is_used : goal.returns-then-is_used

@@ -1,11 +1,10 @@
 use Rattle.picture.specs.Layout.{positions}
 use Rattle.picture.specs.declared.Table.TheVariants.{Jobs}
 use mathlib.Core.Path.{◌≡◌, refl, sym, ◌∙◌}
-use Prim.Native.Nat.{◌≤◌, ◌-◌}
+use Prim.Native.Nat.{◌-◌}
 use Rattle.masks.specs.Masks.{mask}
-use Rattle.tree.specs.Tree.{in_tree, tree}
+use Rattle.tree.specs.Tree.{tree}
 use Rattle.masks.proofs.Masks.{mask_more}
-use borrow.Author.Rules.{rules}
 use native.Mathlib.Omega.{arith}
 use Rattle.tree.proofs.tree_of.Goals as goal
 

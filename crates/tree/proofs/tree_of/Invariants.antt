@@ -1,12 +1,9 @@
 use Rattle.picture.specs.Layout.{positions}
 use Rattle.picture.specs.declared.Table.TheVariants.{Jobs}
-use mathlib.Core.Path.{◌≡◌, refl, sym, ◌∙◌}
+use mathlib.Core.Path.{◌≡◌}
 use Prim.Native.Nat.{◌≤◌, ◌-◌}
 use Rattle.masks.specs.Masks.{mask}
-use Rattle.tree.specs.Tree.{in_tree, tree}
-use Rattle.masks.proofs.Masks.{mask_more}
-use borrow.Author.Rules.{rules}
-use native.Mathlib.Omega.{arith}
+use Rattle.tree.specs.Tree.{in_tree}
 use Rattle.tree.proofs.tree_of.Given as goal
 
 abbrev pub invariant-loop-k : goal.invariant-loop-k

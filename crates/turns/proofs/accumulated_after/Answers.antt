@@ -1,7 +1,5 @@
 use Rattle.turns.proofs.Pick.{picked_has_none, idle_keeps, ready_gains}
-use borrow.Author.Tests.{not-true, not-false}
 use mathlib.Core.Path.{sym, ◌∙◌}
-use borrow.Author.Rules.{rules}
 use Rattle.turns.proofs.accumulated_after.Goals as goal
 
 pub returns-then-k-m : goal.returns-then-k-m

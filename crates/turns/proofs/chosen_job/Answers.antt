@@ -4,7 +4,6 @@ use Rattle.picture.specs.declared.Table.TheVariants.{Jobs}
 use Rattle.picture.specs.Layout.{positions}
 use Rattle.turns.specs.Pick.{chosen_below, chosen_job}
 use Rattle.turns.proofs.Pick.{chosen_none, chosen_next, preferred_within}
-use borrow.Author.Rules.{rules}
 use native.Mathlib.Omega.{arith}
 use Rattle.turns.proofs.chosen_job.Goals as goal
 

@@ -1,5 +1,5 @@
-use Prim.Native.Nat.{◌-◌, ◌≤◌}
-use lib.ListN.{length, length-set}
+use Prim.Native.Nat.{◌-◌}
+use lib.ListN.{length-set}
 use mathlib.Core.Path.{◌≡◌, refl, ◌∙◌, ap}
 use Rattle.picture.specs.Records.{accumulated_field}
 use Rattle.picture.specs.declared.Table.TheVariants.{Jobs}
@@ -8,7 +8,6 @@ use Rattle.turns.specs.Fields.{set_each}
 use Rattle.turns.specs.Pick.{accumulated_after}
 use Rattle.turns.proofs.Pick.{gain_ahead}
 use Rattle.turns.proofs.Fields.{set_each_none, set_each_next}
-use borrow.Author.Rules.{rules}
 use native.Mathlib.Omega.{arith}
 use Rattle.turns.proofs.give_gains.Goals as goal
 

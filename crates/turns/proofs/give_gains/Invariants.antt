@@ -1,15 +1,11 @@
 use Prim.Native.Nat.{◌-◌, ◌≤◌}
-use lib.ListN.{length, length-set}
-use mathlib.Core.Path.{◌≡◌, refl, ◌∙◌, ap}
+use lib.ListN.{length}
+use mathlib.Core.Path.{◌≡◌}
 use Rattle.picture.specs.Records.{accumulated_field}
 use Rattle.picture.specs.declared.Table.TheVariants.{Jobs}
 use Rattle.picture.specs.Layout.{positions}
 use Rattle.turns.specs.Fields.{set_each}
 use Rattle.turns.specs.Pick.{accumulated_after}
-use Rattle.turns.proofs.Pick.{gain_ahead}
-use Rattle.turns.proofs.Fields.{set_each_none, set_each_next}
-use borrow.Author.Rules.{rules}
-use native.Mathlib.Omega.{arith}
 use Rattle.turns.proofs.give_gains.Given as goal
 
 abbrev pub invariant-loop-k : goal.invariant-loop-k

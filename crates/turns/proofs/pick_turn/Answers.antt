@@ -3,7 +3,6 @@ use mir.Syntax.{w32}
 use mir.ValLaws.{to_z-of_z}
 use Rattle.turns.specs.Pick.{turn_given}
 use Rattle.turns.proofs.Pick.{nobody_picked, job_picked}
-use borrow.Author.Rules.{rules}
 use Rattle.turns.proofs.pick_turn.Goals as goal
 
 pub returns-then-m-eq-JOBS : goal.returns-then-m-eq-JOBS

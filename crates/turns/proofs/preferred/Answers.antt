@@ -1,8 +1,6 @@
 use native.Mathlib.Omega.{arith}
 use Rattle.turns.proofs.Pick.{idle_passed, first_taken, more_taken, less_passed}
-use borrow.Author.Tests.{not-true, not-false}
 use mathlib.Core.Path.{sym, ◌∙◌}
-use borrow.Author.Rules.{rules}
 use Rattle.turns.proofs.preferred.Goals as goal
 
 pub returns-then-not-is_ready : goal.returns-then-not-is_ready

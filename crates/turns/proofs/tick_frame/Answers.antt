@@ -1,5 +1,5 @@
-use Prim.Native.Nat.{ℕ, ◌-◌, ◌≤◌}
-use lib.ListN.{length, length-set}
+use Prim.Native.Nat.{ℕ, ◌-◌}
+use lib.ListN.{length-set}
 use mathlib.Core.Path.{◌≡◌, refl, ◌∙◌, ap}
 use mathlib.Core.List.{List}
 use mir.Syntax.{w32}
@@ -12,7 +12,6 @@ use Rattle.picture.proofs.Timeout.{timeout_same}
 use Rattle.turns.specs.Fields.{set_each}
 use Rattle.turns.specs.Tick.{fallen, ticked}
 use Rattle.turns.proofs.Fields.{set_each_none, set_each_next, later_record_stays}
-use borrow.Author.Rules.{rules}
 use native.Mathlib.Omega.{arith}
 use Rattle.turns.proofs.tick_frame.Invariants.{after}
 use Rattle.turns.proofs.tick_frame.Goals as goal

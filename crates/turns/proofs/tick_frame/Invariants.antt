@@ -1,19 +1,13 @@
 use Prim.Native.Nat.{ℕ, ◌-◌, ◌≤◌}
-use lib.ListN.{length, length-set}
-use mathlib.Core.Path.{◌≡◌, refl, ◌∙◌, ap}
+use lib.ListN.{length}
+use mathlib.Core.Path.{◌≡◌}
 use mathlib.Core.List.{List}
-use mir.Syntax.{w32}
-use mir.ValLaws.{to_z-of_z}
 use Rattle.words.specs.Signed.{bits}
 use Rattle.picture.specs.declared.Table.TheVariants.{Jobs}
 use Rattle.picture.specs.Records.{timeout, timeout_field}
 use Rattle.picture.specs.Layout.{positions}
-use Rattle.picture.proofs.Timeout.{timeout_same}
 use Rattle.turns.specs.Fields.{set_each}
-use Rattle.turns.specs.Tick.{fallen, ticked}
-use Rattle.turns.proofs.Fields.{set_each_none, set_each_next, later_record_stays}
-use borrow.Author.Rules.{rules}
-use native.Mathlib.Omega.{arith}
+use Rattle.turns.specs.Tick.{fallen}
 use Rattle.turns.proofs.tick_frame.Given as goal
 
 -- what position i of p gets
