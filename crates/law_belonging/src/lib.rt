@@ -1,3 +1,2 @@
 // To whom a new job belongs, over whole histories: laws only.
 #![tactic(auto)]
-

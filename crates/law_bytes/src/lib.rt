@@ -1,3 +1,2 @@
 // The order of bytes over whole histories: laws only.
 #![tactic(auto)]
-

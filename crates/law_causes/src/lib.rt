@@ -1,3 +1,2 @@
 // Each key only for its cause: laws only.
 #![tactic(auto)]
-

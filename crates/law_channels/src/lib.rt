@@ -1,3 +1,2 @@
 // What opening and closing a channel keep: laws only.
 #![tactic(auto)]
-

@@ -1,3 +1,2 @@
 // What creating a job keeps and refuses: laws only.
 #![tactic(auto)]
-

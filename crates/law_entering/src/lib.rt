@@ -1,3 +1,2 @@
 // What a new entry of a table keeps: laws only.
 #![tactic(auto)]
-

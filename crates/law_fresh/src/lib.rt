@@ -1,3 +1,2 @@
 // A fresh picture is sound: laws only.
 #![tactic(auto)]
-

@@ -52,6 +52,7 @@ number_back s i (suc n) x l m =
 
 written_digits : (s : List ℕ) (i n x j : ℕ) → i + n ≤ length s → j < n → told (digit (get_or (written s i n x) (i + j) 0)) ≡ true
 unfolding written
+written_digits s i zero x j l m = elim m [ ]
 written_digits s i (suc n) x j l m =
     let t = set s (i + n) (capital (x % 16)) in
     let f : i + n ≤ length t = simp length-set (omega arith) in

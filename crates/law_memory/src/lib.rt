@@ -1,3 +1,2 @@
 // What the calls on memory keep and refuse: laws only.
 #![tactic(auto)]
-

@@ -1,3 +1,2 @@
 // What opening a channel keeps: laws only.
 #![tactic(auto)]
-

@@ -1,3 +1,2 @@
 // What placing a block leaves: laws only.
 #![tactic(auto)]
-

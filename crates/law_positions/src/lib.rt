@@ -1,3 +1,2 @@
 // Where a new job and a new channel stand: laws only.
 #![tactic(auto)]
-

@@ -1,3 +1,2 @@
 // What the calls on queues keep: laws only.
 #![tactic(auto)]
-

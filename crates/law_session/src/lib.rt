@@ -1,3 +1,2 @@
 // The whole case of the session, and a session whose input comes in pieces: laws only.
 #![tactic(auto)]
-

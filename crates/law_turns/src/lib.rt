@@ -1,3 +1,2 @@
 // What pick and tick keep: laws only.
 #![tactic(auto)]
-

@@ -17,8 +17,8 @@ loop-k-preserved c =
     let i = c.loop-k.invariant in (
       omega arith,
       elim c.if-is_nearer.branch [
-        then-is_nearer v ↦ v.n-is ∙ v.field_of-n.ensures ∙ next_takes _ _ _ _ _ i.1 (sym c.is_nearer.ensures ∙ v.if-is_nearer.true)
-      | else-is_nearer v ↦ v.n-is ∙ next_passes _ _ _ _ _ i.1 (sym c.is_nearer.ensures ∙ v.if-is_nearer.false)
+        | then-is_nearer v ↦ v.n-is ∙ v.field_of-n.ensures ∙ next_takes _ _ _ _ _ i.1 (sym c.is_nearer.ensures ∙ v.if-is_nearer.true)
+        | else-is_nearer v ↦ v.n-is ∙ next_passes _ _ _ _ _ i.1 (sym c.is_nearer.ensures ∙ v.if-is_nearer.false)
       ],
     )
 

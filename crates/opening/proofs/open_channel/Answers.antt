@@ -47,18 +47,23 @@ returns-in_default-place_in c = open_nowhere _ _ _ _ ((let z : job_at c.args.p.n
 
 pub overflow_add-i : goal.overflow_add-i
 overflow_add-i c =
-    omega (arith, (let z : c.in-At-place_in.i < 16384 = let t = placed_there c.args.p.now Heap _ _ (sym c.place_in.ensures.answers ∙ c.in-At-place_in.is) in
-    let L = (areas_lie_in_a_sound_picture c.args.p.now c.requires Heap).small in
-    omega (arith, t.1.1) in z))
+    omega (
+      arith,
+      (let z : c.in-At-place_in.i < 16384 = let t = placed_there c.args.p.now Heap _ _ (sym c.place_in.ensures.answers ∙ c.in-At-place_in.is) in
+          let L = (areas_lie_in_a_sound_picture c.args.p.now c.requires Heap).small in
+          omega (arith, t.1.1) in z),
+    )
 
 pub enter_channel-requires : goal.enter_channel-requires
 enter_channel-requires c =
     let placed = placing_leaves_the_tables c.args.p.now _ Heap (areas_lie_in_a_sound_picture c.args.p.now c.requires Heap) _ _ _ _ _ (sym c.place_in.ensures.answers ∙ c.in-At-place_in.is) c.place_in.ensures.leaves in
     let behind = writing_leaves_the_tables c.args.p.now _ _ _ _ _ placed c.put.ensures in
-    let long = behind.long in
-    (((omega (arith, sound_tables c.args.p.now c.requires), (c.if-k-ge-CHANNELS.false, rw c.free_position-k.ensures.0 (free_record_stays_zero c.args.p.now _ c.requires Channels ((let z : free_position c.args.p.now Channels < positions Channels = rw c.free_position-k.ensures.0 at c.if-k-ge-CHANNELS.false in z)) behind.tables))), omega (arith, c.if-last-ge-GREATEST_TAG.false)), (let z : c.in-At-place_in.i < 16384 = let t = placed_there c.args.p.now Heap _ _ (sym c.place_in.ensures.answers ∙ c.in-At-place_in.is) in
-    let L = (areas_lie_in_a_sound_picture c.args.p.now c.requires Heap).small in
-    omega (arith, t.1.1) in z))
+    let long = behind.long in (
+      ((omega (arith, sound_tables c.args.p.now c.requires), (c.if-k-ge-CHANNELS.false, rw c.free_position-k.ensures.0 (free_record_stays_zero c.args.p.now _ c.requires Channels ((let z : free_position c.args.p.now Channels < positions Channels = rw c.free_position-k.ensures.0 at c.if-k-ge-CHANNELS.false in z)) behind.tables))), omega (arith, c.if-last-ge-GREATEST_TAG.false)),
+      (let z : c.in-At-place_in.i < 16384 = let t = placed_there c.args.p.now Heap _ _ (sym c.place_in.ensures.answers ∙ c.in-At-place_in.is) in
+          let L = (areas_lie_in_a_sound_picture c.args.p.now c.requires Heap).small in
+          omega (arith, t.1.1) in z),
+    )
 
 pub returns : goal.returns
 returns c =

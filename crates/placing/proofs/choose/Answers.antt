@@ -26,8 +26,8 @@ returns-then-i-e c =
     (c.loop-i.invariant
     ∙
     elim c.loop-i-test.branch [
-      else-loop-i-test w ↦ absurd (omega arith)
-    | then-loop-i-test+then-is_fit w ↦ first_here _ _ _ _ w.loop-i-test.true (sym w.is_fit.ensures ∙ w.if-is_fit.true)
+      | else-loop-i-test w ↦ absurd (omega arith)
+      | then-loop-i-test+then-is_fit w ↦ first_here _ _ _ _ w.loop-i-test.true (sym w.is_fit.ensures ∙ w.if-is_fit.true)
     ])
 
 pub returns : goal.returns
