@@ -1,5 +1,5 @@
 -- "Each public call's contract determines answer, registers and every longword, refused or not; prove that whatever satisfies it is equal": of every function
--- of the manager's face, two answers to one contract. Of a part of a text, bytes and place in memory are equal; the name under which the proof follows it isn't.
+-- of the manager's face, two answers to one contract. Of a part of a text, bytes and place in memory are equal, which is all that it has.
 use Rattle.std.specs.Prelude.{ℕ, ◌≡◌, List, ℤ, length}
 use Rattle.std.proofs.lemmas.List.Edits.{sets}
 use Rattle.std.specs.Borrow.{Bor}
