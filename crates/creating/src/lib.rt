@@ -9,19 +9,12 @@ ghost use Rattle.calls.specs.Call.{outcome};
 ghost use Rattle.creating.specs.Create.{negative, owner_found, job_registers, create};
 
 use calls::{A0, A1, D1, D2, D3};
+use headers::Block;
 use picture::{Area, JobFound, JobNumber, Table};
-use placing::Placement;
 use words::{put, word};
 
 // A job's data space has at least this many bytes.
 const LEAST_DATA: u32 = 4;
-
-// Whose a new job is.
-#[derive(Clone, Copy)]
-pub enum OwnerFound {
-    Of(u32),
-    Dead,
-}
 
 // A register that is negative as a long.
 pub fn is_negative(n: u32) -> bool
@@ -30,17 +23,17 @@ pub fn is_negative(n: u32) -> bool
     0x8000_0000 <= n
 }
 
-// The owner of a job that is created with n in D1.
-pub fn owner_for(p: &[u32], n: u32) -> OwnerFound
+// The owner of a job that is created with n in D1, none where n is no live job's number.
+pub fn owner_for(p: &[u32], n: u32) -> Option<u32>
     ensures { result ≡ owner_found p.now n }
 {
     if is_negative(n) {
-        return OwnerFound::Of(picture::NOBODY);
+        return Some(picture::NOBODY);
     }
     let JobFound::At(_) = picture::job_at(p, JobNumber(n)) else {
-        return OwnerFound::Dead;
+        return None;
     };
-    OwnerFound::Of(n)
+    Some(n)
 }
 
 // D1 is the number, A0 the first byte of room of the block at i.
@@ -57,7 +50,7 @@ pub fn create(p: &mut [u32], d: &mut [u32]) -> i32
     requires { sound p.old ≡ true }
     ensures { Meets (outcome create p.old d.old) result p.new d.new }
 {
-    let OwnerFound::Of(owner) = owner_for(p, word(d, D1)) else {
+    let Some(owner) = owner_for(p, word(d, D1)) else {
         return picture::INVALID_JOB;
     };
     let data = word(d, D3);
@@ -74,8 +67,12 @@ pub fn create(p: &mut [u32], d: &mut [u32]) -> i32
     }
     let length = rooms::block_length(word(d, D2) as u64 + data as u64);
     let start = word(d, A1);
-    let Placement::At(i) = rooms::place_in(p, Area::Transient, length, blocks::JOB, owner, start)
-    else {
+    let block = Block {
+        kind: blocks::JOB,
+        owner,
+        start,
+    };
+    let Some(i) = rooms::place_in(p, Area::Transient, length, block) else {
         return picture::OUT_OF_MEMORY;
     };
     entering::enter(p, Table::Jobs, k, last + 1, owner, rooms::header_byte(i));

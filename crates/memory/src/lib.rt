@@ -12,8 +12,8 @@ ghost use Rattle.memory.specs.Memory.{plain_room, is_plain_room, block_before, g
 
 use blocks::next_block;
 use calls::{A0, D1, D2};
+use headers::Block;
 use picture::{Area, JobFound};
-use placing::Placement;
 use words::{put, word};
 
 // D1 to A3 become 0.
@@ -76,7 +76,12 @@ pub fn take(p: &mut [u32], d: &mut [u32]) -> i32
         return picture::INVALID_JOB;
     };
     let length = rooms::block_length(n as u64);
-    let Placement::At(i) = rooms::place_in(p, Area::Heap, length, blocks::PLAIN, owner.0, 0) else {
+    let block = Block {
+        kind: blocks::PLAIN,
+        owner: owner.0,
+        start: 0,
+    };
+    let Some(i) = rooms::place_in(p, Area::Heap, length, block) else {
         return picture::OUT_OF_MEMORY;
     };
     answer_room(d, length as u32, i);

@@ -5,6 +5,7 @@ use mathlib.Core.Bool.{true, false}
 use mathlib.Core.List.{List}
 use lib.IntN.{ℤ}
 use borrow.Author.Tests.{lt-ltb, le-ltb}
+use Rattle.std.specs.Prelude.{Some, None}
 use Rattle.words.specs.Words.{word, put}
 use Rattle.picture.specs.Keys.{done, invalid_job, out_of_memory, channel_not_open}
 use Rattle.picture.specs.Layout.{last_word, greatest_tag, positions, from, upto}
@@ -14,7 +15,6 @@ use Rattle.picture.specs.declared.Area.TheVariants.{Heap}
 use Rattle.picture.specs.declared.JobFound.TheVariants as job
 use Rattle.blocks.specs.Header.{queue_kind}
 use Rattle.placing.specs.Place.{after}
-use Rattle.placing.specs.declared.Placement.TheVariants.{At, Nowhere}
 use Rattle.placing.proofs.Answer.{after_at, after_nowhere}
 use Rattle.calls.specs.Outcome.{refuse, succeed, Meets}
 use Rattle.calls.specs.Call.{outcome}
@@ -50,21 +50,21 @@ module _ (p d s : List ℕ) where
         -- from what placing answers
         module _ (tagged : word p (last_word Channels) < greatest_tag) (n o b : ℕ) (named-n : n ≡ number_in (named s)) (owner : o ≡ meant p (D1 d)) (long : b ≡ queue_bytes n) (q : List ℕ)
             (leaves : q ≡ after p (from p Heap) (upto p Heap) b queue_kind o 0) where
-          open_full : room_at p Heap (queue_bytes (number_in (named s))) ≡ Nowhere → outcome (open_channel s) p d ≡ refuse out_of_memory p d
+          open_full : room_at p Heap (queue_bytes (number_in (named s))) ≡ None → outcome (open_channel s) p d ≡ refuse out_of_memory p d
           unfolding open_channel has_position has_tag outcome
           open_full h = rw (lives, fair, lt-ltb _ _ free, lt-ltb _ _ tagged, h)
 
-          open_done : (i : ℕ) → room_at p Heap (queue_bytes (number_in (named s))) ≡ At i
+          open_done : (i : ℕ) → room_at p Heap (queue_bytes (number_in (named s))) ≡ Some i
               → outcome (open_channel s) p d ≡ succeed (opened p (meant p (D1 d)) (number_in (named s))) (channel_registers (meant p (D1 d)) (next_number p Channels) d)
           unfolding open_channel has_position has_tag outcome
           open_done i h = rw (lives, fair, lt-ltb _ _ free, lt-ltb _ _ tagged, h)
 
-          pub open_nowhere : room_at p Heap b ≡ Nowhere → Meets (outcome (open_channel s) p d) out_of_memory q d
+          pub open_nowhere : room_at p Heap b ≡ None → Meets (outcome (open_channel s) p d) out_of_memory q d
           open_nowhere h =
               rw (leaves, after_nowhere p (from p Heap) (upto p Heap) b queue_kind o 0 h)
               (meets_refuse _ _ _ _ (open_full (rw (long, named-n) at h)))
 
-          pub open_there : (i : ℕ) (r e : List ℕ) → room_at p Heap b ≡ At i
+          pub open_there : (i : ℕ) (r e : List ℕ) → room_at p Heap b ≡ Some i
               → r ≡ channelled (put q (i + 4) n) (free_position p Channels) (word p (last_word Channels) + 1) o i
               → e ≡ channel_registers o (next_number p Channels) d → Meets (outcome (open_channel s) p d) done r e
           unfolding opened queued

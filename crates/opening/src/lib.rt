@@ -11,8 +11,8 @@ ghost use Rattle.calls.specs.Call.{outcome};
 ghost use Rattle.opening.specs.Effects.{channelled, channel_registers};
 ghost use Rattle.opening.specs.Calls.{open_channel};
 
+use headers::Block;
 use picture::{Area, JobFound, Table};
-use placing::Placement;
 use words::{put, word};
 
 // The entry with this tag at position k, of this owner, for the queue at i, is in the table.
@@ -56,7 +56,12 @@ pub fn open_channel(p: &mut [u32], d: &mut [u32], name: &[u8]) -> i32
     }
     let n = names::number_in(read);
     let bytes = blocks::round_up(32 + n as u64);
-    let Placement::At(i) = rooms::place_in(p, Area::Heap, bytes, blocks::QUEUE, owner, 0) else {
+    let block = Block {
+        kind: blocks::QUEUE,
+        owner,
+        start: 0,
+    };
+    let Some(i) = rooms::place_in(p, Area::Heap, bytes, block) else {
         return picture::OUT_OF_MEMORY;
     };
     put(p, i + blocks::QUEUE_LENGTH, n);

@@ -9,7 +9,7 @@ use Rattle.picture.specs.Layout.{heap_base, greatest_size, from, upto}
 use Rattle.picture.specs.declared.Area.{Area}
 use Rattle.picture.specs.declared.Area.TheVariants.{Heap, Transient}
 use Rattle.sound.specs.Sound.{sound}
-use Rattle.sound_facts.proofs.Sound.{Sizes, Sound}
+use Rattle.sound_facts.proofs.Sound.{Sizes}
 use Rattle.sound_facts.proofs.View.{view}
 
 -- an area of a picture: where it starts, where it stops, and that it lies behind the tables and in the picture

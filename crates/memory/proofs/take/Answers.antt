@@ -28,7 +28,7 @@ pub overflow_cast-length : goal.overflow_cast-length
 overflow_cast-length c = let good = sym c.is_length.ensures ∙ c.if-not-is_length.false in omega (arith, c.block_length-length.ensures, length_small _ good)
 
 pub answer_room-requires : goal.answer_room-requires
-answer_room-requires c = let h = placed_there _ Heap _ _ (sym c.place_in.ensures.answers ∙ c.in-At-place_in.is) in omega (arith, h.1.1, (areas_lie_in_a_sound_picture _ c.requires Heap).small)
+answer_room-requires c = let h = placed_there _ Heap _ _ (sym c.place_in.ensures.answers ∙ c.in-Some.is) in omega (arith, h.1.1, (areas_lie_in_a_sound_picture _ c.requires Heap).small)
 
 pub returns : goal.returns
 returns c =
@@ -36,4 +36,4 @@ returns c =
     let alive = rw (c.number_meant-owner.ensures, c.word.ensures) at (sym c.job_at.ensures ∙ c.in-At.is) in
     let long = rw c.word-n.ensures at c.block_length-length.ensures in
     let owner = rw c.word.ensures at c.number_meant-owner.ensures in
-    take_there _ _ _ _ _ good alive long owner _ c.place_in.ensures.leaves _ _ (sym c.place_in.ensures.answers ∙ c.in-At-place_in.is) c.answer_room.ensures
+    take_there _ _ _ _ _ good alive long owner _ c.place_in.ensures.leaves _ _ (sym c.place_in.ensures.answers ∙ c.in-Some.is) c.answer_room.ensures

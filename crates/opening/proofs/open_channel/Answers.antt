@@ -49,18 +49,18 @@ pub overflow_add-i : goal.overflow_add-i
 overflow_add-i c =
     omega (
       arith,
-      (let z : c.in-At-place_in.i < 16384 = let t = placed_there c.args.p.now Heap _ _ (sym c.place_in.ensures.answers ∙ c.in-At-place_in.is) in
+      (let z : c.in-Some.i < 16384 = let t = placed_there c.args.p.now Heap _ _ (sym c.place_in.ensures.answers ∙ c.in-Some.is) in
           let L = (areas_lie_in_a_sound_picture c.args.p.now c.requires Heap).small in
           omega (arith, t.1.1) in z),
     )
 
 pub enter_channel-requires : goal.enter_channel-requires
 enter_channel-requires c =
-    let placed = placing_leaves_the_tables c.args.p.now _ Heap (areas_lie_in_a_sound_picture c.args.p.now c.requires Heap) _ _ _ _ _ (sym c.place_in.ensures.answers ∙ c.in-At-place_in.is) c.place_in.ensures.leaves in
+    let placed = placing_leaves_the_tables c.args.p.now _ Heap (areas_lie_in_a_sound_picture c.args.p.now c.requires Heap) _ _ _ _ _ (sym c.place_in.ensures.answers ∙ c.in-Some.is) c.place_in.ensures.leaves in
     let behind = writing_leaves_the_tables c.args.p.now _ _ _ _ _ placed c.put.ensures in
     let long = behind.long in (
       ((omega (arith, sound_tables c.args.p.now c.requires), (c.if-k-ge-CHANNELS.false, rw c.free_position-k.ensures.0 (free_record_stays_zero c.args.p.now _ c.requires Channels ((let z : free_position c.args.p.now Channels < positions Channels = rw c.free_position-k.ensures.0 at c.if-k-ge-CHANNELS.false in z)) behind.tables))), omega (arith, c.if-last-ge-GREATEST_TAG.false)),
-      (let z : c.in-At-place_in.i < 16384 = let t = placed_there c.args.p.now Heap _ _ (sym c.place_in.ensures.answers ∙ c.in-At-place_in.is) in
+      (let z : c.in-Some.i < 16384 = let t = placed_there c.args.p.now Heap _ _ (sym c.place_in.ensures.answers ∙ c.in-Some.is) in
           let L = (areas_lie_in_a_sound_picture c.args.p.now c.requires Heap).small in
           omega (arith, t.1.1) in z),
     )
@@ -68,6 +68,6 @@ enter_channel-requires c =
 pub returns : goal.returns
 returns c =
     open_there _ _ _ _ ((let z : job_at c.args.p.now (meant c.args.p.now (word c.args.d.now 1)) ≡ At c.in-At.field-0 = rw ((let z : c.number_meant-meant.result.0 ≡ meant c.args.p.now (word c.args.d.now 1) = rw c.word.ensures at c.number_meant-meant.ensures in z)) at (sym c.job_at.ensures ∙ c.in-At.is) in z)) ((let z : good (named c.args.name.now) ≡ true = rw c.read_name-read.ensures at (sym c.is_good.ensures ∙ c.if-not-is_good.false) in z)) ((let z : free_position c.args.p.now Channels < positions Channels = rw c.free_position-k.ensures.0 at c.if-k-ge-CHANNELS.false in z)) ((let z : word c.args.p.now 3 < greatest_tag = rw (c.word_at-last.ensures, c.last_of.ensures) at c.if-last-ge-GREATEST_TAG.false in z)) c.number_in-n.result _ _ (c.number_in-n.ensures ∙ ap number_in c.read_name-read.ensures) ((let z : c.number_meant-meant.result.0 ≡ meant c.args.p.now (word c.args.d.now 1) = rw c.word.ensures at c.number_meant-meant.ensures in z)) c.round_up-bytes.ensures _ c.place_in.ensures.leaves
-    c.in-At-place_in.i _ _ (sym c.place_in.ensures.answers ∙ c.in-At-place_in.is)
+    c.in-Some.i _ _ (sym c.place_in.ensures.answers ∙ c.in-Some.is)
     (c.enter_channel.ensures ∙ rw (c.put.ensures, c.free_position-k.ensures.0, c.word_at-last.ensures, c.last_of.ensures))
     (c.answer_channel.ensures ∙ rw (c.number_of.ensures, c.free_position-k.ensures.0, c.word_at-last.ensures, c.last_of.ensures))
