@@ -5,7 +5,7 @@ use mathlib.Core.Bool.{Bool, true, false, cond}
 use mathlib.Core.List.{List}
 use lib.IntN.{ℤ}
 use borrow.Author.Tests.{lt-ltb, le-ltb, le-leb, lt-leb}
-use Rattle.std.specs.Prelude.{Option, Some, None}
+use Rattle.std.proofs.Common.{Option, Some, None}
 use Rattle.words.specs.Words.{word}
 use Rattle.words.proofs.Tests.{false_true}
 use Rattle.picture.specs.Layout.{nobody, positions, last_word, greatest_tag, from, upto}

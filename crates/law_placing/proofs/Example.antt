@@ -2,7 +2,7 @@
 use Prim.Native.Nat.{ℕ}
 use mathlib.Core.Path.{◌≡◌, refl}
 use mathlib.Core.List.{List, [], ◌∷◌}
-use Rattle.std.specs.Prelude.{Some, None}
+use Rattle.std.proofs.Common.{Some, None}
 use Rattle.words.specs.Words.{clear}
 use Rattle.blocks.specs.Walk.{good, next, starts, starts_within}
 use Rattle.headers.specs.Header.{header}

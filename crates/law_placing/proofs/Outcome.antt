@@ -3,7 +3,7 @@ use Prim.Native.Nat.{ℕ, ◌%◌, ◌≤◌}
 use mathlib.Core.Path.{◌≡◌, sym, ◌∙◌}
 use mathlib.Core.List.{List}
 use lib.ListN.{length}
-use Rattle.std.specs.Prelude.{Option, Some, None}
+use Rattle.std.proofs.Common.{Option, Some, None}
 use Rattle.law_areas.specs.Area.{Tiled}
 use Rattle.placing.specs.Place.{placed, Placing}
 use Rattle.placing.proofs.Chosen.{Chosen, NoRoom}

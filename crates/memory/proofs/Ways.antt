@@ -5,13 +5,12 @@ use mathlib.Core.Bool.{Bool, true, false}
 use mathlib.Core.List.{List}
 use lib.Dec.{leb, ltb}
 use borrow.Author.Tests.{ltb-true}
-use Rattle.std.specs.Prelude.{Some, None}
+use Rattle.std.proofs.Common.{Some, None}
 use Rattle.words.specs.Each.{any}
 use Rattle.words.proofs.Tests.{both}
 use Rattle.picture.specs.Layout.{from, upto}
 use Rattle.picture.specs.Numbers.{job_at}
 use Rattle.picture.specs.Keys.{done, invalid_job, out_of_memory, bad_parameter}
-use Rattle.picture.specs.declared.JobFound.TheVariants as job
 use Rattle.picture.specs.declared.Area.TheVariants.{Heap}
 use Rattle.blocks.specs.Header.{plain_kind}
 use Rattle.blocks.specs.Walk.{starts, next}
@@ -31,21 +30,21 @@ module _ (p d : List ℕ) where
   unfolding take outcome
   take_bad h = rw h
 
-  pub take_dead : length_good (D1 d) ≡ true → job_at p (meant p (D2 d)) ≡ job.Dead → outcome take p d ≡ refuse invalid_job p d
+  pub take_dead : length_good (D1 d) ≡ true → job_at p (meant p (D2 d)) ≡ None → outcome take p d ≡ refuse invalid_job p d
   unfolding take outcome
   take_dead h l = rw (h, l)
 
-  pub take_full : (k : ℕ) → length_good (D1 d) ≡ true → job_at p (meant p (D2 d)) ≡ job.At k → room_at p Heap (taken_length d) ≡ None → outcome take p d ≡ refuse out_of_memory p d
+  pub take_full : (k : ℕ) → length_good (D1 d) ≡ true → job_at p (meant p (D2 d)) ≡ Some k → room_at p Heap (taken_length d) ≡ None → outcome take p d ≡ refuse out_of_memory p d
   unfolding take outcome
   take_full k h l r = rw (h, l, r)
 
-  pub take_done : (k i : ℕ) → length_good (D1 d) ≡ true → job_at p (meant p (D2 d)) ≡ job.At k → room_at p Heap (taken_length d) ≡ Some i
+  pub take_done : (k i : ℕ) → length_good (D1 d) ≡ true → job_at p (meant p (D2 d)) ≡ Some k → room_at p Heap (taken_length d) ≡ Some i
       → outcome take p d ≡ succeed (taken p d) (room_registers (taken_length d) (spot p Heap (taken_length d)) d)
   unfolding take outcome
   take_done k i h l r = rw (h, l, r)
 
   -- the same, from what placing answers
-  module _ (n o k : ℕ) (good : length_good (D1 d) ≡ true) (alive : job_at p (meant p (D2 d)) ≡ job.At k) (long : n ≡ taken_length d) (owner : o ≡ meant p (D2 d)) (q : List ℕ)
+  module _ (n o k : ℕ) (good : length_good (D1 d) ≡ true) (alive : job_at p (meant p (D2 d)) ≡ Some k) (long : n ≡ taken_length d) (owner : o ≡ meant p (D2 d)) (q : List ℕ)
       (leaves : q ≡ after p (from p Heap) (upto p Heap) n plain_kind o 0) where
     pub take_nowhere : answer p (from p Heap) (upto p Heap) n ≡ None → Meets (outcome take p d) out_of_memory q d
     take_nowhere h =

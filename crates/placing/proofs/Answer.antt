@@ -6,7 +6,7 @@ use mathlib.Core.List.{List}
 use lib.Dec.{ltb}
 use native.Mathlib.Omega.{arith}
 use borrow.Author.Tests.{ltb-true, ltb-false, lt-ltb, le-ltb}
-use Rattle.std.specs.Prelude.{Some, None}
+use Rattle.std.proofs.Common.{Some, None}
 use Rattle.std.proofs.lemmas.Option.{cond_some}
 use Rattle.placing.specs.Place.{chosen, placed, answer, after}
 use Rattle.placing.proofs.Chosen.{Chosen, NoRoom, chosen_is_free_and_enough, chosen_is_not_past_the_end, none_is_chosen_where_all_are_shorter, all_are_shorter_where_none_is_chosen}

@@ -7,7 +7,7 @@ use native.Mathlib.Omega.{arith}
 use lib.Dec.{ltb}
 use borrow.Author.Tests.{ltb-true, ltb-false, lt-ltb, le-ltb}
 use lib.IntN.{ℤ}
-use Rattle.std.specs.Prelude.{Option, Some, None}
+use Rattle.std.proofs.Common.{Option, Some, None}
 use Rattle.words.proofs.Tests.{false_true}
 use Rattle.picture.specs.Keys.{done, out_of_memory}
 use Rattle.picture.specs.Layout.{from, upto}

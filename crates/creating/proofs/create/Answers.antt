@@ -3,8 +3,7 @@ use mathlib.Core.Path.{sym, ◌∙◌}
 use Rattle.picture.specs.declared.Table.TheVariants.{Jobs}
 use Rattle.picture.specs.declared.Area.TheVariants.{Transient}
 use Rattle.calls.proofs.Outcome.{meets_refuse}
-use Rattle.rooms.proofs.Room.{placed_there}
-use Rattle.rooms.proofs.Sizes.{areas_lie_in_a_sound_picture}
+use Rattle.rooms.proofs.Sizes.{areas_lie_in_a_sound_picture, placed_in_a_sound_picture}
 use Rattle.rooms.proofs.Tables.{placing_leaves_the_tables}
 use Rattle.sound.proofs.Room.{sound_tables}
 use Rattle.entering.proofs.Vacant.{free_record_stays_zero}
@@ -48,7 +47,7 @@ returns-in_default-place_in c =
     create_nowhere _ _ _ o enough place tagged _ long _ (rw c.word-start.ensures at c.place_in.ensures.leaves) (sym c.place_in.ensures.answers ∙ c.in_default-place_in.is)
 
 pub header_byte-requires : goal.header_byte-requires
-header_byte-requires c = let h = placed_there _ Transient _ _ (sym c.place_in.ensures.answers ∙ c.in-Some-place_in.is) in omega (arith, h.1.1, (areas_lie_in_a_sound_picture _ c.requires Transient).small)
+header_byte-requires c = placed_in_a_sound_picture _ c.requires Transient _ _ (sym c.place_in.ensures.answers ∙ c.in-Some-place_in.is)
 
 pub enter-requires : goal.enter-requires
 enter-requires c =
@@ -59,7 +58,7 @@ enter-requires c =
     ((omega (arith, sound_tables c.args.p.now c.requires), (free, rw place (free_record_stays_zero c.args.p.now _ c.requires Jobs (rw place at free) behind.tables))), omega (arith, c.if-last-ge-GREATEST_TAG.false))
 
 pub answer_job-requires : goal.answer_job-requires
-answer_job-requires c = let h = placed_there _ Transient _ _ (sym c.place_in.ensures.answers ∙ c.in-Some-place_in.is) in omega (arith, h.1.1, (areas_lie_in_a_sound_picture _ c.requires Transient).small)
+answer_job-requires c = placed_in_a_sound_picture _ c.requires Transient _ _ (sym c.place_in.ensures.answers ∙ c.in-Some-place_in.is)
 
 pub returns : goal.returns
 returns c =
