@@ -18,7 +18,9 @@ use Rattle.picture.specs.Records.{number, used}
 use Rattle.picture.specs.Numbers.{tag}
 use Rattle.picture.specs.declared.Table.{Table}
 use Rattle.sound_matching.specs.Match.{first, has_block}
-use Rattle.sound_matching.specs.declared.Walked.TheVariants.{Broken, Counted}
+use Rattle.std.specs.Prelude.{Some, None}
+use mir.Val.{bool_byte}
+use Rattle.sound_matching.proofs.Converted.{one_converted, one_small}
 use Rattle.sound_records.specs.Rules.{tags_differ, tag_once}
 use Rattle.sound_records.proofs.Used.{has_block_used}
 use Rattle.sound_entries.specs.Entries.{live_fine, blank_fine, note_of, told_once, several, with_note, record_fine, entries_walked}
@@ -89,14 +91,16 @@ module _ (p : List ℕ) (t : Table) where
       }
 
   pub passed_live : (k n r : ℕ) (seen : List ℕ) → Passed k n seen → k < several → used p t k ≡ true → live_fine p t k ≡ true → told_once p t k (note_of p t k seen) ≡ true
-      → r ≡ one (leb (first t) k) → r ≤ 1 → Passed (k + 1) (n + r) (with_note p t k seen)
+      → r ≡ bool_byte (leb (first t) k) → Passed (k + 1) (n + r) (with_note p t k seen)
   unfolding with_note
-  passed_live k n r seen q m u h o w z =
+  passed_live k n r seen q m u h o w =
       let f = q.few in
+      let v = w ∙ one_converted (leb (first t) k) in
+      let z = one_small (leb (first t) k) in
       record {
         few = omega arith;
         fine = every_next (record_fine p t) k q.fine (rw (live_record k u, h, once k n seen q m u o));
-        count = count_next (has_block p t) k n r q.count (w ∙ ap one (sym (has_block_used p t k u)));
+        count = count_next (has_block p t) k n r q.count (v ∙ ap one (sym (has_block_used p t k u)));
         room = length-set seen (low k) _ ∙ q.room;
         noted = λ j l v. noted_then j l v (eqb (low j) (low k)) refl;
       }
@@ -127,18 +131,18 @@ module _ (p : List ℕ) (t : Table) where
           (λ i. ⊎_elim (λ (a : get_or seen (low j) 0 ≡ j + 1). inl (g ∙ a)) (λ (a : get_or seen (low j) 0 ≡ several). inr (g ∙ a)) (q.noted j i v))
           (eq-or-lt_of_le (omega arith))
 
-  pub passed_not : (k : ℕ) → k < positions t → record_fine p t k ≡ false → Broken ≡ entries_walked p t
+  pub passed_not : (k : ℕ) → k < positions t → record_fine p t k ≡ false → None ≡ entries_walked p t
   unfolding entries_walked
   passed_not k l h = rw (every_not (record_fine p t) (positions t) k l h)
 
   -- a record not in use that is not blank, one in use that breaks a rule, and one whose tag is used twice
-  pub not_blank : (k : ℕ) → k < positions t → used p t k ≡ false → blank_fine p t k ≡ false → Broken ≡ entries_walked p t
+  pub not_blank : (k : ℕ) → k < positions t → used p t k ≡ false → blank_fine p t k ≡ false → None ≡ entries_walked p t
   not_blank k l u h = passed_not k l (blank_record k u ∙ h)
 
-  pub not_live : (k : ℕ) → k < positions t → used p t k ≡ true → live_fine p t k ≡ false → Broken ≡ entries_walked p t
+  pub not_live : (k : ℕ) → k < positions t → used p t k ≡ true → live_fine p t k ≡ false → None ≡ entries_walked p t
   not_live k l u h = passed_not k l (live_record k u ∙ ap (λ (b : Bool). b && tag_once p t k) h)
 
-  pub not_once : (k note : ℕ) → k < positions t → used p t k ≡ true → told_once p t k note ≡ false → Broken ≡ entries_walked p t
+  pub not_once : (k note : ℕ) → k < positions t → used p t k ≡ true → told_once p t k note ≡ false → None ≡ entries_walked p t
   unfolding tag_once told_once
   not_once k note l u h = passed_not k l (live_record k u ∙ fails_right (live_fine p t k) (tag_once p t k) (rw u (go (eqb note 0) refl (leb note k) refl h)))
     where
@@ -150,6 +154,6 @@ module _ (p : List ℕ) (t : Table) where
           every_not (tags_differ p t k) k (note - 1) (omega arith) r
       go false x false y r = r
 
-  pub passed_all : (k n : ℕ) (seen : List ℕ) → Passed k n seen → k ≡ positions t → Counted n ≡ entries_walked p t
+  pub passed_all : (k n : ℕ) (seen : List ℕ) → Passed k n seen → k ≡ positions t → Some n ≡ entries_walked p t
   unfolding entries_walked
-  passed_all k n seen q e = rw (← e, q.fine) (ap Counted q.count)
+  passed_all k n seen q e = rw (← e, q.fine) (ap Some q.count)

@@ -1,6 +1,6 @@
 -- Needs no belief: the test of which it is a part is equal to `sound`, by `tested_is` (sound/proofs/Fused.antt).
 -- What the test for soundness computes of a table: every record keeps its rules, and how many entries have a block.
-use Rattle.std.specs.Prelude.{ℕ, ◌+◌, ◌-◌, ◌%◌, Bool, true, ◌&&◌, cond, List, leb, eqb, get_or, set}
+use Rattle.std.specs.Prelude.{ℕ, ◌+◌, ◌-◌, ◌%◌, Bool, true, ◌&&◌, cond, List, Option, Some, None, leb, eqb, get_or, set}
 use Rattle.words.specs.Each.{every, count}
 use Rattle.picture.specs.Layout.{positions}
 use Rattle.picture.specs.Records.{number, all_zero, used}
@@ -8,8 +8,6 @@ use Rattle.picture.specs.Numbers.{tag}
 use Rattle.picture.specs.declared.Table.{Table}
 use Rattle.picture.specs.declared.Table.TheVariants.{Jobs, Channels}
 use Rattle.sound_matching.specs.Match.{first, has_block}
-use Rattle.sound_matching.specs.declared.Walked.{Walked}
-use Rattle.sound_matching.specs.declared.Walked.TheVariants.{Broken, Counted}
 use Rattle.sound_records.specs.Rules.{zero_base, priority_within, accumulated_within, timeout_within, ends_in_one, positioned, zero_exists, tag_within, tags_differ, tag_once, owner_live, owner_older, zero_unowned, tag_given, wait_allowed, idle_zero}
 
 -- the rules that a record of either table keeps
@@ -49,6 +47,6 @@ with_note p t k seen = set seen (tag (number p t k) % 64) (cond (eqb (note_of p 
 unfoldable pub record_fine : List ℕ → Table → ℕ → Bool
 record_fine p t k = cond (used p t k) (live_fine p t k && tag_once p t k) (blank_fine p t k)
 
--- a walk over the table: broken, or how many entries have a block
-unfoldable pub entries_walked : List ℕ → Table → Walked
-entries_walked p t = cond (every (record_fine p t) (positions t)) (Counted (count (has_block p t) (positions t))) Broken
+-- a walk over the table: none where one of them breaks a rule, or how many entries have a block
+unfoldable pub entries_walked : List ℕ → Table → Option ℕ
+entries_walked p t = cond (every (record_fine p t) (positions t)) (Some (count (has_block p t) (positions t))) None

@@ -9,7 +9,6 @@ ghost use Rattle.sound_entries.specs.Entries.{note_of, told_once, with_note};
 ghost use Rattle.sound_entries.specs.Entries.{entry_fine, zero_fine, live_fine, blank_fine, entries_walked};
 
 use picture::Table;
-use sound_matching::Walked;
 
 // The note that several positions have the same last six bits of their tags.
 const SEVERAL: u8 = 255;
@@ -100,8 +99,8 @@ pub fn is_blank_fine(p: &[u32], t: Table, k: usize) -> bool
     ensures { result ≡ blank_fine p.now t k }
 {
     match t {
-        Table::Jobs => (1 <= k) & sound_job_records::is_job_zero(p, k),
-        Table::Channels => sound_records::is_channel_zero(p, k),
+        Table::Jobs => (1 <= k) & sound_records::is_all_zero::<{ picture::JOB_WIDTH }>(p, t, k),
+        Table::Channels => sound_records::is_all_zero::<{ picture::CHANNEL_WIDTH }>(p, t, k),
     }
 }
 
@@ -125,34 +124,30 @@ pub fn is_tag_once(p: &[u32], t: Table, k: usize, seen: &mut [u8; 64]) -> bool
     sound_records::tag_alone(p, t, k)
 }
 
-// A walk over the table. It notes the position of each entry under its block's place, and under the last six bits of its tag, which only say where to
-// look first.
-pub fn walk_entries(p: &[u32], t: Table, noted: &mut [u8; 64]) -> Walked
+// A walk over the table: none where a record breaks a rule, or how many entries have a block. It notes the position of each entry under its block's place,
+// and under the last six bits of its tag, which only say where to look first.
+pub fn walk_entries(p: &[u32], t: Table, noted: &mut [u8; 64]) -> Option<usize>
     requires { heap_base ≤ length p.now }
     ensures { result ≡ entries_walked p.now t }
 {
-    let n = picture::positions_of(t);
     let first = sound_matching::first_of(t);
     let mut seen = [0u8; 64];
     let mut entries = 0;
-    let mut k = 0;
-    while k < n {
+    for k in 0..picture::positions_of(t) {
         if !picture_tables::is_used(p, t, k) {
             if !is_blank_fine(p, t, k) {
-                return Walked::Broken;
+                return None;
             }
-            k += 1;
             continue;
         }
         if !is_live_fine(p, t, k) {
-            return Walked::Broken;
+            return None;
         }
         if !is_tag_once(p, t, k, &mut seen) {
-            return Walked::Broken;
+            return None;
         }
         noted[(picture_tables::field_of(p, t, k, picture::BASE) / 16 % 64) as usize] = k as u8;
-        entries += sound_matching::one_of(first <= k);
-        k += 1;
+        entries += usize::from(first <= k);
     }
-    Walked::Counted(entries)
+    Some(entries)
 }
