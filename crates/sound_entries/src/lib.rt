@@ -10,8 +10,13 @@ ghost use Rattle.sound_entries.specs.Entries.{entry_fine, zero_fine, live_fine, 
 
 use picture::Table;
 
-// The note that several positions have the same last six bits of their tags.
-const SEVERAL: u8 = 255;
+// What lower positions in use left under the last six bits of a tag: nothing where none has them, the position that has, or that several have.
+#[derive(Clone, Copy)]
+pub enum Note {
+    Nothing,
+    At(u8),
+    Several,
+}
 
 // The rules that a record in use of either table keeps.
 pub fn is_entry_fine(p: &[u32], t: Table, k: usize) -> bool
@@ -104,24 +109,28 @@ pub fn is_blank_fine(p: &[u32], t: Table, k: usize) -> bool
     }
 }
 
-// No lower position in use has the same tag. Under the last six bits of a tag stands a note: 0 where no lower position has them, the position + 1
-// where one has, more than that where several have; so none is looked at, or that one, or all. The note has position k afterwards.
-pub fn is_tag_once(p: &[u32], t: Table, k: usize, seen: &mut [u8; 64]) -> bool
+// No lower position in use has the same tag. The note under the tag's last six bits says whether none is looked at, or one, or all. It has position k
+// afterwards.
+pub fn is_tag_once(p: &[u32], t: Table, k: usize, seen: &mut [Note; 64]) -> bool
     requires { (heap_base ≤ length p.now) × (k < positions t) }
     ensures value { result ≡ told_once p.now t k (note_of p.now t k seen.old) }
     ensures seen_after { seen.new ≡ with_note p.now t k seen.old }
 {
     let low = (sound_records::tag_at(p, t, k) % 64) as usize;
-    let note = seen[low];
-    if note == 0 {
-        seen[low] = (k + 1) as u8;
-        return true;
+    match seen[low] {
+        Note::Nothing => {
+            seen[low] = Note::At(k as u8);
+            true
+        }
+        Note::At(j) => {
+            seen[low] = Note::Several;
+            if usize::from(j) < k {
+                return sound_records::tags_differ(p, t, k, usize::from(j));
+            }
+            sound_records::tag_alone(p, t, k)
+        }
+        Note::Several => sound_records::tag_alone(p, t, k),
     }
-    seen[low] = SEVERAL;
-    if note <= k as u8 {
-        return sound_records::tags_differ(p, t, k, note as usize - 1);
-    }
-    sound_records::tag_alone(p, t, k)
 }
 
 // A walk over the table: none where a record breaks a rule, or how many entries have a block. It notes the position of each entry under its block's place,
@@ -131,7 +140,7 @@ pub fn walk_entries(p: &[u32], t: Table, noted: &mut [u8; 64]) -> Option<usize>
     ensures { result ≡ entries_walked p.now t }
 {
     let first = sound_matching::first_of(t);
-    let mut seen = [0u8; 64];
+    let mut seen = [Note::Nothing; 64];
     let mut entries = 0;
     for k in 0..picture::positions_of(t) {
         if !picture_tables::is_used(p, t, k) {

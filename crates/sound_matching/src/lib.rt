@@ -39,7 +39,8 @@ pub fn is_agreed(p: &[u32], t: Table, i: usize) -> bool
     (0..picture::positions_of(t)).any(|k| is_agreeing(p, t, k, i))
 }
 
-// The block at i agrees with the record at the position noted for its place.
+// The block at i agrees with the record at the position noted for its place. A byte is a position to look at first: where none was noted it is 0, which is
+// looked at like any other, so `Option<u8>` would add a way out and tell nothing.
 pub fn is_agreed_as_noted(p: &[u32], t: Table, i: usize, noted: &[u8; 64]) -> bool
     requires { (heap_base ≤ length p.now) × ((i + holder_field < length p.now) × (i < 8589934592)) }
     ensures { result ≡ agreed_as_noted p.now t i noted.now }

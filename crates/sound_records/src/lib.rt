@@ -29,8 +29,8 @@ pub fn ends_in_one(p: &[u32], k: usize) -> bool
     field_of(p, Table::Channels, k, picture::ENDING) == 1
 }
 
-// Every field of the record is zero; WIDTH is how many it has. No field is left out once one isn't zero: with the width known and no way out, the loop is a
-// line of machine code for a field. `(0..WIDTH).all(..)` takes 5 instructions more for each record that is not in use.
+// Every field of the record is zero; WIDTH is how many it has. With that known the loop is unrolled, since it has no way out: `(0..WIDTH).all(..)`, which
+// leaves at a field that isn't zero, takes five instructions more for each record that is not in use.
 pub fn is_all_zero<const WIDTH: usize>(p: &[u32], t: Table, k: usize) -> bool
     requires { (heap_base ≤ length p.now) × ((k < positions t) × (WIDTH ≡ width t)) }
     ensures { result ≡ all_zero p.now t k }

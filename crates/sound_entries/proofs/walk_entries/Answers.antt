@@ -1,8 +1,5 @@
 use Rattle.sound_entries.proofs.Passed.{passed_blank, passed_live, not_blank, not_live, not_once, passed_all}
-use Rattle.sound_entries.specs.Entries.{several}
-use Rattle.picture.proofs.Members.{positions_within}
 use mathlib.Core.Path.{sym, ◌∙◌}
-use Prim.Native.Nat.{◌<◌}
 use native.Mathlib.Omega.{arith}
 use Rattle.sound_entries.proofs.walk_entries.Goals as goal
 
@@ -20,8 +17,7 @@ returns-then-not-is_tag_once c = not_once _ _ _ _ (rw c.positions_of-k-end.ensur
 
 pub loop-k-preserved : goal.loop-k-preserved
 loop-k-preserved c =
-    let l : c.loop-k.k < several = omega (arith, positions_within c.args.t, c.positions_of-k-end.ensures, c.loop-k-test.true) in
-    rw c.is_tag_once.ensures.seen_after (passed_live _ _ _ _ _ _ c.loop-k.invariant l (sym c.is_used.ensures ∙ c.if-not-is_used.false) (sym c.is_live_fine.ensures ∙ c.if-not-is_live_fine.false) (sym c.is_tag_once.ensures.value ∙ c.if-not-is_tag_once.false) (rw c.first_of-first.ensures at c.from-entries.ensures))
+    rw c.is_tag_once.ensures.seen_after (passed_live _ _ _ _ _ _ c.loop-k.invariant (sym c.is_used.ensures ∙ c.if-not-is_used.false) (sym c.is_live_fine.ensures ∙ c.if-not-is_live_fine.false) (sym c.is_tag_once.ensures.value ∙ c.if-not-is_tag_once.false) (rw c.first_of-first.ensures at c.from-entries.ensures))
 
 pub returns : goal.returns
 returns c = passed_all _ _ _ _ _ c.loop-k.invariant (omega (arith, c.positions_of-k-end.ensures, c.loop-k-test.false, c.loop-k.auto.k-end))
