@@ -19,20 +19,15 @@ pub enum Note {
 }
 
 // The rules that a record in use of either table keeps.
+#[tactic(auto, unfolding(crate::specs::Entries::entry_fine))]
 pub fn is_entry_fine(p: &[u32], t: Table, k: usize) -> bool
     requires { (heap_base ≤ length p.now) × ((k < positions t) × (used p.now t k ≡ true)) }
     ensures { result ≡ entry_fine p.now t k }
 {
-    if !sound_records::is_positioned(p, t, k) {
-        return false;
-    }
-    if !sound_records::tag_within(p, t, k) {
-        return false;
-    }
-    if !sound_records::tag_given(p, t, k) {
-        return false;
-    }
-    sound_records::owner_live(p, t, k)
+    sound_records::is_positioned(p, t, k)
+        && sound_records::tag_within(p, t, k)
+        && sound_records::tag_given(p, t, k)
+        && sound_records::owner_live(p, t, k)
 }
 
 // The rules of job 0; any other job keeps them.
@@ -48,43 +43,28 @@ pub fn is_zero_fine(p: &[u32], k: usize) -> bool
 }
 
 // The rules of a job in use.
+#[tactic(auto, unfolding(crate::specs::Entries::live_fine))]
 pub fn is_job_fine(p: &[u32], k: usize) -> bool
     requires { (heap_base ≤ length p.now) × ((k < positions Jobs) × (used p.now Jobs k ≡ true)) }
     ensures { result ≡ live_fine p.now Jobs k }
 {
-    if !is_entry_fine(p, Table::Jobs, k) {
-        return false;
-    }
-    if !is_zero_fine(p, k) {
-        return false;
-    }
-    if !sound_job_records::priority_within(p, k) {
-        return false;
-    }
-    if !sound_job_records::accumulated_within(p, k) {
-        return false;
-    }
-    if !sound_job_records::timeout_within(p, k) {
-        return false;
-    }
-    if !sound_job_records::owner_older(p, k) {
-        return false;
-    }
-    if !sound_job_records::wait_allowed(p, k) {
-        return false;
-    }
-    sound_job_records::idle_zero(p, k)
+    is_entry_fine(p, Table::Jobs, k)
+        && is_zero_fine(p, k)
+        && sound_job_records::priority_within(p, k)
+        && sound_job_records::accumulated_within(p, k)
+        && sound_job_records::timeout_within(p, k)
+        && sound_job_records::owner_older(p, k)
+        && sound_job_records::wait_allowed(p, k)
+        && sound_job_records::idle_zero(p, k)
 }
 
 // The rules of a channel in use.
+#[tactic(auto, unfolding(crate::specs::Entries::live_fine))]
 pub fn is_channel_fine(p: &[u32], k: usize) -> bool
     requires { (heap_base ≤ length p.now) × ((k < positions Channels) × (used p.now Channels k ≡ true)) }
     ensures { result ≡ live_fine p.now Channels k }
 {
-    if !is_entry_fine(p, Table::Channels, k) {
-        return false;
-    }
-    sound_records::ends_in_one(p, k)
+    is_entry_fine(p, Table::Channels, k) && sound_records::ends_in_one(p, k)
 }
 
 // The rules of a record in use, but that its tag is used once.
