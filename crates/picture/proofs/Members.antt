@@ -1,6 +1,6 @@
 -- Where the set of a table's positions in use stands, and what that leaves alone. No other crate knows the longword.
 use Prim.Native.Nat.{ℕ, ◌<◌, ◌≤◌, ◌^◌}
-use mathlib.Core.Path.{◌≡◌, refl, sym, ◌∙◌}
+use mathlib.Core.Path.{◌≡◌, refl}
 use mathlib.Core.List.{List}
 use lib.ListN.{length, length-set}
 use lib.Seq.{get_or-set_same, get_or-set_other}

@@ -1,9 +1,9 @@
 -- Laws of specs/Records.antt.
-use Prim.Native.Nat.{ℕ, ◌+◌, ◌*◌, ◌<◌, ◌≤◌}
+use Prim.Native.Nat.{ℕ, ◌+◌, ◌<◌, ◌≤◌}
 use mathlib.Core.Path.{◌≡◌, ap}
-use mathlib.Core.Bool.{Bool, true, false, ◌&&◌}
+use mathlib.Core.Bool.{true, false}
 use mathlib.Core.List.{List}
-use lib.Dec.{ltb, eqb}
+use lib.Dec.{eqb}
 use native.Mathlib.Omega.{arith}
 use borrow.Author.Tests.{ltb-true, lt-ltb, le-ltb, eqb-true, eq-eqb, ne_eqb}
 use Rattle.words.specs.Words.{word, clear}
@@ -13,7 +13,7 @@ use Rattle.words.proofs.Each.{every_at, every_by, every_not, every_same}
 use Rattle.words.proofs.Tests.{both}
 use Rattle.picture.specs.declared.Table.{Table}
 use Rattle.picture.specs.declared.Table.TheVariants.{Jobs, Channels}
-use Rattle.picture.specs.Layout.{positions, width, heap_base, first_record}
+use Rattle.picture.specs.Layout.{positions, width, heap_base}
 use Rattle.picture.specs.Records.{slot, field, base_field, all_zero, members, used}
 use Rattle.picture.specs.Numbers.{tag_weight}
 

@@ -3,3 +3,4 @@ pub mod Layout
 pub mod Records
 pub mod Numbers
 pub mod Keys
+pub mod Answers

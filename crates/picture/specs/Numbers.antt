@@ -1,14 +1,10 @@
 -- Document 01 (rules 9, 11 and 12): "A number is tag × 65,536 + position. .. Within its kind a number names exactly one live entry or names none."
-use Rattle.std.specs.Prelude.{ℕ, ◌+◌, ◌*◌, ◌/◌, ◌%◌, Bool, ◌&&◌, cond, List, eqb}
+use Rattle.std.specs.Prelude.{ℕ, ◌+◌, ◌*◌, ◌/◌, ◌%◌, Bool, ◌&&◌, cond, List, eqb, Option, Some, None}
 use Rattle.masks.specs.Masks.{lowest_clear}
 use Rattle.picture.specs.Layout.{positions}
 use Rattle.picture.specs.Records.{number, members, used}
 use Rattle.picture.specs.declared.Table.{Table}
 use Rattle.picture.specs.declared.Table.TheVariants.{Jobs, Channels}
-use Rattle.picture.specs.declared.JobFound.{JobFound}
-use Rattle.picture.specs.declared.JobFound.TheVariants as job
-use Rattle.picture.specs.declared.ChannelFound.{ChannelFound}
-use Rattle.picture.specs.declared.ChannelFound.TheVariants as channel
 
 abbrev pub tag_weight : ℕ
 tag_weight = 65536
@@ -26,12 +22,15 @@ number_of g k = g * tag_weight + k
 unfoldable pub live : List ℕ → Table → ℕ → Bool
 live p t n = used p t (position n) && eqb (number p t (position n)) n
 
--- rules 11 and 12: the position of the job that n names, and of the channel that n names
-unfoldable pub job_at : List ℕ → ℕ → JobFound
-job_at p n = cond (live p Jobs n) (job.At (position n)) job.Dead
+-- rules 11 and 12: the position of the entry that n names in its table, of the job that n names, and of the channel that n names
+unfoldable pub entry_at : List ℕ → Table → ℕ → Option ℕ
+entry_at p t n = cond (live p t n) (Some (position n)) None
 
-unfoldable pub channel_at : List ℕ → ℕ → ChannelFound
-channel_at p n = cond (live p Channels n) (channel.At (position n)) channel.Dead
+abbrev pub job_at : List ℕ → ℕ → Option ℕ
+job_at p n = entry_at p Jobs n
+
+abbrev pub channel_at : List ℕ → ℕ → Option ℕ
+channel_at p n = entry_at p Channels n
 
 -- rule 71: "the lowest clear bit of the mask": the free position, or the number of positions for none
 unfoldable pub free_position : List ℕ → Table → ℕ

@@ -1,12 +1,14 @@
 // The memory picture: where things stand in it, records, and numbers that name a job or a channel.
 #![tactic(auto)]
 
-ghost use Rattle.std.specs.Prelude.{◌≡◌, ◌+◌, ◌*◌, ◌/◌, ◌%◌, ◌^◌, ◌<◌, ◌≤◌, length};
+ghost use Rattle.std.specs.Prelude.{◌≡◌, ℕ, ◌+◌, ◌*◌, ◌/◌, ◌%◌, ◌^◌, ◌<◌, ◌≤◌, length};
 ghost use Rattle.words.specs.Words.{word};
 ghost use Rattle.picture.specs.Layout.{positions, width, from, upto, last_word, mask_word, heap_base, greatest_tag};
-ghost use Rattle.picture.specs.declared.Table.TheVariants.{Jobs};
+ghost use Rattle.picture.specs.declared.Table.TheVariants.{Jobs, Channels};
 ghost use Rattle.picture.specs.Records.{slot, field, timeout, members, with_members, used, ready, active};
-ghost use Rattle.picture.specs.Numbers.{tag_weight, tag, position, live, job_at, channel_at, free_position, number_of};
+ghost use Rattle.picture.specs.Numbers.{tag_weight, tag, position, live, entry_at, free_position, number_of};
+ghost use Rattle.picture.specs.Answers.{refusal_key, answer_key};
+ghost use Rattle.picture.specs.declared.Table.{Table};
 
 use words::word;
 
@@ -115,6 +117,63 @@ pub enum Area {
     Transient,
 }
 
+// Why a call is refused: each of these has a key of its own.
+#[derive(Clone, Copy)]
+pub enum Refusal {
+    NotComplete,
+    InvalidJob,
+    OutOfMemory,
+    OutOfRange,
+    BufferOverflow,
+    ChannelNotOpen,
+    NotFound,
+    BadName,
+    BadParameter,
+    NotSound,
+}
+
+// The key of a refusal.
+impl From<Refusal> for i32 {
+    ghost from_gives = { λ refusal key. key ≡ refusal_key refusal };
+
+    fn from(refusal: Refusal) -> i32 {
+        match refusal {
+            Refusal::NotComplete => NOT_COMPLETE,
+            Refusal::InvalidJob => INVALID_JOB,
+            Refusal::OutOfMemory => OUT_OF_MEMORY,
+            Refusal::OutOfRange => OUT_OF_RANGE,
+            Refusal::BufferOverflow => BUFFER_OVERFLOW,
+            Refusal::ChannelNotOpen => CHANNEL_NOT_OPEN,
+            Refusal::NotFound => NOT_FOUND,
+            Refusal::BadName => BAD_NAME,
+            Refusal::BadParameter => BAD_PARAMETER,
+            Refusal::NotSound => NOT_SOUND,
+        }
+    }
+}
+
+// The key of an answer: that of its refusal, or 0.
+pub fn key_of(answer: Result<(), Refusal>) -> i32
+    ensures { result ≡ answer_key answer }
+{
+    match answer {
+        Ok(()) => DONE,
+        Err(refusal) => i32::from(refusal),
+    }
+}
+
+// A number of either kind, which is looked up in the table of its kind alone.
+pub trait Number: Copy {
+    ghost TABLE: { Table };
+
+    const TABLE: Table;
+
+    ghost value: { Self → ℕ };
+
+    fn value(self) -> u32
+        ensures { result ≡ value self };
+}
+
 // A job's number and a channel's number are different kinds: one never stands for the other.
 #[derive(Clone, Copy)]
 pub struct JobNumber(pub u32);
@@ -122,18 +181,28 @@ pub struct JobNumber(pub u32);
 #[derive(Clone, Copy)]
 pub struct ChannelNumber(pub u32);
 
-// The position of the job that a number names.
-#[derive(Clone, Copy)]
-pub enum JobFound {
-    At(usize),
-    Dead,
+impl Number for JobNumber {
+    ghost TABLE = { Jobs };
+
+    const TABLE: Table = Table::Jobs;
+
+    ghost value = { λ number. number.0 };
+
+    fn value(self) -> u32 {
+        self.0
+    }
 }
 
-// The position of the channel that a number names.
-#[derive(Clone, Copy)]
-pub enum ChannelFound {
-    At(usize),
-    Dead,
+impl Number for ChannelNumber {
+    ghost TABLE = { Channels };
+
+    const TABLE: Table = Table::Channels;
+
+    ghost value = { λ number. number.0 };
+
+    fn value(self) -> u32 {
+        self.0
+    }
 }
 
 // How many positions the table has.
@@ -295,26 +364,15 @@ pub fn is_live(p: &[u32], t: Table, n: u32) -> bool
     field_of(p, t, k, NUMBER) == n
 }
 
-// The position of the job that the number names.
-pub fn job_at(p: &[u32], n: JobNumber) -> JobFound
-    ensures { result ≡ job_at p.now n.0 }
+// The position of the entry that the number names.
+pub fn entry_at<N: Number>(p: &[u32], number: N) -> Option<usize>
+    ensures { result ≡ entry_at p.now N.TABLE (N.value number) }
 {
-    let number = n.0;
-    if is_live(p, Table::Jobs, number) {
-        return JobFound::At(position_of(number));
+    let n = number.value();
+    if is_live(p, N::TABLE, n) {
+        return Some(position_of(n));
     }
-    JobFound::Dead
-}
-
-// The position of the channel that the number names.
-pub fn channel_at(p: &[u32], n: ChannelNumber) -> ChannelFound
-    ensures { result ≡ channel_at p.now n.0 }
-{
-    let number = n.0;
-    if is_live(p, Table::Channels, number) {
-        return ChannelFound::At(position_of(number));
-    }
-    ChannelFound::Dead
+    None
 }
 
 // The lowest position that is free, or the number of positions for none: by the mask alone, in as many steps however many are in use.

@@ -1,56 +1,15 @@
--- Two's complement: what `!` and the casts between u32 and i32 come to. Assumes nothing.
+-- Two's complement: signed numbers and the longwords by which they stand. Assumes nothing.
 use mathlib.Core.Path.{◌≡◌, refl, ap, sym, ◌∙◌, subst}
-use mathlib.Core.Bool.{Bool, true, false, false≢true, true≢false}
+use mathlib.Core.Bool.{Bool, true, false, false≢true}
 use Prim.Native.Nat.{ℕ, suc, ◌-◌, ◌^◌, ◌<◌, ◌≤◌}
 use native.Mathlib.Omega.{arith}
-use lib.Dec.{T, ltb, eqb, leb-zero}
-use lib.IntN.{ℤ, pos, negsuc, nat_abs}
-use lib.Signed.{non_neg, le_z}
+use lib.Dec.{ltb, eqb}
+use lib.IntN.{ℤ, pos, negsuc}
 use borrow.Author.Tests.{eq-eqb, ne_eqb, eqb-true, eqb-false, ltb-true, ltb-false}
 use mathlib.Core.Logic.{◌≢◌}
-use mir.Syntax.{w16, w32}
-use mir.Val.{to_z, of_z, sel, Fits, SFits}
-use mir.ValLaws.{to_z_pos, to_z-neg, to_z-of_z}
+use mir.Syntax.{w32}
+use mir.Val.{sel, SFits}
 use Rattle.words.specs.Signed.{signed, bits, eq_z}
-
-pub not_not : (n x : ℕ) → x ≤ n → n - (n - x) ≡ x
-not_not n x h = omega arith
-
--- a word below 2 ^ 16 read at 32 bits as at 16, once its sign is spread
-pub spread : (y : ℕ) → y < 65536 → 32768 ≤ y → to_z w32 (4294967295 - (65535 - y)) ≡ to_z w16 y
-spread y h l =
-    let k = 65535 - y in
-    let e : 4294967295 - k ≡ 2 ^ 32 - suc k = omega arith in
-    let f : 2 ^ 16 - suc k ≡ y = omega arith in
-    ap (to_z w32) e ∙ to_z-neg w32 k (omega arith) ∙ sym (to_z-neg w16 k (omega arith)) ∙ ap (to_z w16) f
-
--- what a cast of a signed number to u32 asks, and gives
-abbrev Cast : ℤ → Type 0
-Cast z = T (non_neg z) × Fits w32 (nat_abs z)
-
-at_or_above : (z : ℤ) → SFits w32 z → le_z (pos 0) z ≡ true → Cast z × (nat_abs z ≡ of_z w32 z)
-at_or_above (pos n) s e = ((tt, omega (arith, s.sfits)), refl)
-at_or_above (negsuc n) s e = absurd (false≢true e)
-
-pub cast_pos : (z : ℤ) → SFits w32 z → le_z (pos 0) (to_z w32 (of_z w32 z)) ≡ true → Cast (to_z w32 (of_z w32 z)) × (nat_abs (to_z w32 (of_z w32 z)) ≡ of_z w32 z)
-cast_pos z s = rw (to_z-of_z w32 z s) (at_or_above z s)
-
-abbrev Back : ℕ → ℤ → Type 0
-Back b z = Cast z × (4294967295 - nat_abs z ≡ b)
-
-below : (z : ℤ) → SFits w32 z → le_z (pos 0) z ≡ false → Back (of_z w32 z) (to_z w32 (4294967295 - of_z w32 z))
-below (pos n) s e = absurd (true≢false (sym (leb-zero n) ∙ e))
-below (negsuc n) s e =
-    let b : n < 2 ^ 31 = s.sfits in
-    let g : 4294967295 - (2 ^ 32 - suc n) ≡ n = omega arith in
-    rw (g, to_z_pos w32 n b) ((tt, omega arith), omega arith)
-
-pub cast_neg : (z : ℤ) → SFits w32 z → le_z (pos 0) (to_z w32 (of_z w32 z)) ≡ false → Back (of_z w32 z) (to_z w32 (4294967295 - of_z w32 z))
-cast_neg z s e = below z s (rw (to_z-of_z w32 z s) at e)
-
--- a signed number by its bits
-pub by_bits : (z : ℤ) → SFits w32 z → (b : ℕ) → of_z w32 z ≡ b → z ≡ to_z w32 b
-by_bits z f b e = sym (to_z-of_z w32 z f) ∙ ap (to_z w32) e
 
 -- the test of two signed numbers, both ways
 pub eq_z_true : (y z : ℤ) → eq_z y z ≡ true → y ≡ z

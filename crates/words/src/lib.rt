@@ -31,10 +31,8 @@ pub fn put(p: &mut [u32], i: usize, v: u32)
 pub fn clear(p: &mut [u32], from: usize, upto: usize)
     ensures { p.new ≡ clear (upto - from) p.old from }
 {
-    let mut i = from;
-    while i < upto {
+    for i in from..upto {
         put(p, i, 0);
-        i += 1;
     }
 }
 
@@ -50,35 +48,20 @@ pub fn is_set(longword: u32, k: usize) -> bool
 pub fn low_half(register: u32) -> i32
     ensures { result ≡ to_z w16 (low_word register) }
 {
-    let half = register % 65536;
-    if half < 32768 {
-        half as i32
-    } else {
-        !((65535 - half) as i32)
-    }
+    let half = (register % 65536) as u16;
+    i32::from(half.cast_signed())
 }
-
-// From here on a longword read as signed is negative.
-const FIRST_NEGATIVE: u32 = 0x8000_0000;
 
 // A longword, read as signed.
 pub fn signed_of(longword: u32) -> i32
     ensures { result ≡ signed longword }
 {
-    if longword < FIRST_NEGATIVE {
-        longword as i32
-    } else {
-        !((!longword) as i32)
-    }
+    longword.cast_signed()
 }
 
 // The longword by which a signed number stands.
 pub fn bits_of(number: i32) -> u32
     ensures { result ≡ bits number }
 {
-    if number >= 0 {
-        number as u32
-    } else {
-        !((!number) as u32)
-    }
+    number.cast_unsigned()
 }

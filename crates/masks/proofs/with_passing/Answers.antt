@@ -8,7 +8,6 @@ use Rattle.masks.specs.Masks.{with_bit}
 use Rattle.masks.proofs.Masks.{one_shifted, with_bit_is}
 use Rattle.masks.proofs.with_passing.Goals as goal
 
--- src/lib.rt:33:1
 pub returns : goal.returns
 returns c =
     go c.args.passes

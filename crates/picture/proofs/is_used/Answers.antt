@@ -1,14 +1,10 @@
 use Rattle.picture.specs.Records.{members}
 use Rattle.picture.proofs.Records.{used_past, used_is}
-use Rattle.picture.proofs.Members.{bits_of_positions}
 use mathlib.Core.Path.{sym}
 use Rattle.picture.proofs.is_used.Goals as goal
 
 pub returns-then-positions_of-k : goal.returns-then-positions_of-k
 returns-then-positions_of-k c = sym (used_past _ _ _ (rw c.positions_of.ensures at c.if-positions_of-k.true))
-
-pub is_set-requires : goal.is_set-requires
-is_set-requires c = bits_of_positions c.args.t _ (rw c.positions_of.ensures at c.if-positions_of-k.false)
 
 pub returns : goal.returns
 unfolding members

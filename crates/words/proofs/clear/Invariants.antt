@@ -1,11 +1,7 @@
 use Rattle.words.specs.Words.{clear}
-use lib.ListN.{length}
 use mathlib.Core.Path.{◌≡◌}
 use Prim.Native.Nat.{◌-◌}
 use Rattle.words.proofs.clear.Given as goal
 
 abbrev pub invariant-loop-i : goal.invariant-loop-i
-invariant-loop-i l = (length l.p ≡ length l.initial.p) × (clear (l.upto - l.from) l.initial.p l.from ≡ clear (l.upto - l.i) l.p l.i)
-
-abbrev pub decreases-loop-i : goal.decreases-loop-i
-decreases-loop-i l = l.upto - l.i
+invariant-loop-i l = clear (l.upto - l.from) l.initial.p l.from ≡ clear (l.upto - l.i) l.p l.i
