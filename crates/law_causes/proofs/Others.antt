@@ -130,7 +130,7 @@ module _ (text : List ℕ) where
           part_is_whole : (at : ℕ) → is_some (string_at text at) ≡ true → whole_at text at ≡ true
           part_is_whole at g = by (whole_at text at) g
             where
-              by : (b : Bool) → is_some (cond b (Some (record { start = at + 2; count = length_word text at })) None) ≡ true → b ≡ true
+              by : (b : Bool) → is_some {T = Part} (cond b (Some (record { start = at + 2; count = length_word text at })) None) ≡ true → b ≡ true
               by true h = refl
               by false h = absurd (false_true h)
 
