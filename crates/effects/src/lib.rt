@@ -11,6 +11,7 @@ use picture::Table;
 use timeouts::Timeout;
 
 // Answers the job's number and its record's offset.
+#[tactic(auto, unfolding(crate::specs::Effects::naming))]
 pub fn name_job(d: &mut [u32], n: u32, k: usize)
     requires { k < positions Jobs }
     ensures { d.new ≡ naming n k d.old }
@@ -27,6 +28,7 @@ pub fn is_suspension(t: Option<Timeout>) -> bool
 }
 
 // Suspends the job at a position with a timeout: it waits for nobody, and has neither turns nor a key due.
+#[tactic(auto, unfolding(crate::specs::Effects::suspended))]
 pub fn put_suspension(p: &mut [u32], position: usize, timeout: i32)
     requires { position < positions Jobs }
     ensures { p.new ≡ suspended p.old position timeout }
@@ -38,6 +40,7 @@ pub fn put_suspension(p: &mut [u32], position: usize, timeout: i32)
 }
 
 // Ends the suspension of the job at position k; a job that isn't suspended stays as it is.
+#[tactic(auto, unfolding(crate::specs::Effects::released))]
 pub fn put_release(p: &mut [u32], k: usize)
     requires { k < positions Jobs }
     ensures { p.new ≡ released p.old k }
@@ -51,6 +54,7 @@ pub fn put_release(p: &mut [u32], k: usize)
 }
 
 // Gives the job at position k a priority, and no turns due.
+#[tactic(auto, unfolding(crate::specs::Effects::prioritized))]
 pub fn put_priority(p: &mut [u32], k: usize, priority: u32)
     requires { k < positions Jobs }
     ensures { p.new ≡ prioritized p.old k priority }
@@ -78,6 +82,7 @@ pub fn is_endless(t: Option<Timeout>) -> bool
 }
 
 // Where the timeout is without end, the caller at position c waits for the job with number n.
+#[tactic(auto, unfolding(crate::specs::Effects::waiting))]
 pub fn put_wait(p: &mut [u32], t: Option<Timeout>, c: usize, n: u32)
     requires { c < tag_weight }
     ensures { p.new ≡ waiting p.old t c n }
