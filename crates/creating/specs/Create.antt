@@ -1,5 +1,5 @@
 -- Document 01: the call $1 (rules 76 and 77).
-use Rattle.std.specs.Prelude.{ℕ, ◌+◌, Bool, true, false, cond, List, [], ◌∷◌, leb}
+use Rattle.std.specs.Prelude.{ℕ, ◌+◌, Bool, true, false, cond, List, [], ◌∷◌, leb, Option, Some, None}
 use Rattle.picture.specs.Layout.{nobody}
 use Rattle.picture.specs.Numbers.{live, free_position}
 use Rattle.picture.specs.Keys.{done, invalid_job, bad_parameter}
@@ -11,26 +11,24 @@ use Rattle.rooms.specs.Room.{block_length, spot, room_at, room_check, header_byt
 use Rattle.calls.specs.Call.{Check, Call}
 use Rattle.calls.specs.Registers.{D1, D2, D3, A1, with_D1, with_A0}
 use Rattle.entering.specs.Entry.{has_position, has_tag, next_tag, next_number, entered}
-use Rattle.creating.specs.declared.OwnerFound.{OwnerFound}
-use Rattle.creating.specs.declared.OwnerFound.TheVariants.{Of, Dead}
 
 -- rule 76: "D1 negative as a long"
 abbrev pub negative : ℕ → Bool
 negative n = leb 0x8000_0000 n
 
 -- rule 76: "where D1 is negative the new job has no owner; otherwise D1 names its owner", a live job (-2)
-unfoldable pub owner_found : List ℕ → ℕ → OwnerFound
-owner_found p n = cond (negative n) (Of nobody) (cond (live p Jobs n) (Of n) Dead)
+unfoldable pub owner_found : List ℕ → ℕ → Option ℕ
+owner_found p n = cond (negative n) (Some nobody) (cond (live p Jobs n) (Some n) None)
 
 -- "D1 must be live (-2)"
-abbrev pub owner_check : OwnerFound → Check
-owner_check (Of o) = (true, done)
-owner_check Dead = (false, invalid_job)
+abbrev pub owner_check : Option ℕ → Check
+owner_check (Some o) = (true, done)
+owner_check None = (false, invalid_job)
 
--- the owner's number, nobody for none
-abbrev pub owner_in : OwnerFound → ℕ
-owner_in (Of o) = o
-owner_in Dead = nobody
+-- the owner's number; where none is found the call is refused, and nobody stands for it
+abbrev pub owner_in : Option ℕ → ℕ
+owner_in (Some o) = o
+owner_in None = nobody
 
 -- rule 76: "D3 below 4: -15"
 abbrev pub least_data : ℕ

@@ -7,7 +7,7 @@ ghost use Rattle.picture.specs.Layout.{greatest_size};
 ghost use Rattle.freeing.specs.Sweep.{named, goes, freed, absorbed, joined, run, swept};
 
 use blocks::{FREE, HOLDER, KIND, next_block};
-use headers::put_header;
+use headers::{FREE_BLOCK, put_header};
 use picture::JOBS;
 use words::{put, word};
 
@@ -37,7 +37,7 @@ pub fn free_block(p: &mut [u32], set: u64, block: usize, i: usize)
 {
     if is_going(p, set, block, i) {
         let size = word(p, i);
-        put_header(p, i, size, FREE, 0, 0);
+        put_header(p, i, size, FREE_BLOCK);
     }
 }
 
@@ -47,7 +47,7 @@ pub fn absorb_block(p: &mut [u32], e: usize, r: usize, i: usize)
     ensures { p.new ≡ absorbed p.old e r i }
 {
     let end = next_block(p, i, e);
-    put_header(p, i, 0, 0, 0, 0);
+    put_header(p, i, 0, FREE_BLOCK);
     put(p, r, ((end - r) * 4) as u32);
 }
 

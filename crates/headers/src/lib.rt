@@ -4,17 +4,33 @@
 ghost use Rattle.std.specs.Prelude.{◌≡◌};
 ghost use Rattle.headers.specs.Header.{header};
 
-use blocks::{HOLDER, KIND, START};
+use blocks::{FREE, HOLDER, KIND, START};
 use words::put;
 
-// The header of the block at i holds this length, kind, owner and start address.
-pub fn put_header(p: &mut [u32], i: usize, length: u32, kind: u32, owner: u32, start: u32)
-    ensures { p.new ≡ header p.old i length kind owner start }
+// What a header says of its block beside the length: its kind, its owner and the start address of a job, else 0.
+#[derive(Clone, Copy, Debug, PartialEq, Eq)]
+pub struct Block {
+    pub kind: u32,
+    pub owner: u32,
+    pub start: u32,
+}
+
+// A block that is free has no owner and no start address.
+pub const FREE_BLOCK: Block = Block {
+    kind: FREE,
+    owner: 0,
+    start: 0,
+};
+
+// The header of the block at i holds this length and says this of it.
+#[tactic(auto, unfolding(crate::specs::Header::header), using(crate::proofs::Header::header_past_the_end))]
+pub fn put_header(p: &mut [u32], i: usize, length: u32, block: Block)
+    ensures { p.new ≡ header p.old i length block.kind block.owner block.start }
 {
     if i < p.len() {
         put(p, i, length);
-        put(p, i + KIND, kind);
-        put(p, i + HOLDER, owner);
-        put(p, i + START, start);
+        put(p, i + KIND, block.kind);
+        put(p, i + HOLDER, block.owner);
+        put(p, i + START, block.start);
     }
 }

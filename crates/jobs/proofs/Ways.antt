@@ -8,7 +8,7 @@ use borrow.Author.Tests.{le-leb, lt-leb, not-true, not-false}
 use Rattle.picture.specs.Keys.{done, not_complete, invalid_job, bad_parameter}
 use Rattle.picture.specs.Records.{active}
 use Rattle.picture.specs.Numbers.{position, job_at}
-use Rattle.picture.specs.declared.JobFound.TheVariants.{Dead}
+use Rattle.std.proofs.Common.{None}
 use Rattle.picture.specs.Layout.{greatest_priority}
 use Rattle.std.proofs.Common.{Option}
 use Rattle.timeouts.specs.Timeout.{timeout_in, value}
@@ -28,7 +28,7 @@ meets_done : (o : Outcome) (p d q e : List ℕ) → o ≡ succeed p d → q ≡ 
 meets_done o p d q e s a b = record { answers = sym (ap (λ (x : Outcome). x.key) s); leaves = a ∙ sym (ap (λ (x : Outcome). x.picture) s); gives = b ∙ sym (ap (λ (x : Outcome). x.registers) s) }
 
 module _ (p d : List ℕ) where
-  module _ (h : job_at p (job p d) ≡ Dead) where
+  module _ (h : job_at p (job p d) ≡ None) where
     pub suspend_lost : Meets (outcome suspend p d) invalid_job p d
     unfolding suspend outcome
     suspend_lost = meets_refuse _ invalid_job p d (rw h)

@@ -19,13 +19,12 @@ use Rattle.words.proofs.Each.{any_some, some_any}
 use Rattle.picture.specs.Keys.{not_complete, invalid_job, out_of_memory, channel_not_open, bad_parameter}
 use Rattle.picture.specs.Layout.{positions, last_word, greatest_tag, greatest_priority, greatest_timeout}
 use Rattle.picture.specs.Records.{number, priority, used, active, members}
-use Rattle.picture.specs.Numbers.{position, live, job_at, channel_at, free_position}
+use Rattle.picture.specs.Numbers.{position, live, job_at, channel_at, free_position, entry_at}
 use Rattle.picture.specs.declared.Table.{Table}
 use Rattle.picture.specs.declared.Table.TheVariants.{Jobs, Channels}
 use Rattle.picture.specs.declared.Area.{Area}
 use Rattle.picture.specs.declared.Area.TheVariants.{Heap}
-use Rattle.picture.specs.declared.JobFound.TheVariants as job
-use Rattle.picture.specs.declared.ChannelFound.TheVariants as channel
+use Rattle.std.proofs.Common.{Some, None}
 use Rattle.picture.proofs.Numbers.{live_is, is_live}
 use Rattle.picture.proofs.Records.{used_is}
 use Rattle.masks.specs.Masks.{lowest_clear}
@@ -89,18 +88,18 @@ module _ (p d s : List ℕ) where
     live_names t n l = let L = live_is p t n l in record { at = position n; in_use = L.used; holds = L.names }
 
     pub tells_job : (n : ℕ) → Tells (W (not_live Jobs n)) (job_check (job_at p n)) invalid_job
-    unfolding job_at
+    unfolding entry_at
     tells_job n = go (live p Jobs n) refl
       where
-        go : (b : Bool) → live p Jobs n ≡ b → Tells (Names p Jobs n → ⊥) (job_check (cond b (job.At (position n)) job.Dead)) invalid_job
+        go : (b : Bool) → live p Jobs n ≡ b → Tells (Names p Jobs n → ⊥) (job_check (cond b (Some (position n)) None)) invalid_job
         go true e = record { fails = λ z. absurd (false_true (sym z)); passes = λ _ w. w (live_names Jobs n e) }
         go false e = record { fails = λ _. ((λ N. false_true (sym e ∙ names_live Jobs n N)), refl); passes = λ z. absurd (false_true z) }
 
     pub tells_channel : (n : ℕ) → Tells (W (not_live Channels n)) (channel_check (channel_at p n)) channel_not_open
-    unfolding channel_at
+    unfolding entry_at
     tells_channel n = go (live p Channels n) refl
       where
-        go : (b : Bool) → live p Channels n ≡ b → Tells (Names p Channels n → ⊥) (channel_check (cond b (channel.At (position n)) channel.Dead)) channel_not_open
+        go : (b : Bool) → live p Channels n ≡ b → Tells (Names p Channels n → ⊥) (channel_check (cond b (Some (position n)) None)) channel_not_open
         go true e = record { fails = λ z. absurd (false_true (sym z)); passes = λ _ w. w (live_names Channels n e) }
         go false e = record { fails = λ _. ((λ N. false_true (sym e ∙ names_live Channels n N)), refl); passes = λ z. absurd (false_true z) }
 

@@ -2,11 +2,11 @@
 use Prim.Native.Nat.{ℕ}
 use mathlib.Core.Path.{◌≡◌, refl}
 use mathlib.Core.List.{List, [], ◌∷◌}
+use Rattle.std.proofs.Common.{Some, None}
 use Rattle.words.specs.Words.{clear}
 use Rattle.blocks.specs.Walk.{good, next, starts, starts_within}
 use Rattle.headers.specs.Header.{header}
 use Rattle.placing.specs.Place.{fits, chosen, split, placed, answer, after, longer, longest}
-use Rattle.placing.specs.declared.Placement.TheVariants.{At, Nowhere}
 
 -- one free block of 64 bytes, its room full of old bytes
 area : List ℕ
@@ -20,11 +20,11 @@ the_low_end_is_taken : after area 0 16 32 1 5 0 ≡ with_a_block
 unfolding area with_a_block after chosen fits placed split header clear starts starts_within next good
 the_low_end_is_taken = refl
 
-a_whole_block_is_taken : answer with_a_block 0 16 32 ≡ At 8
+a_whole_block_is_taken : answer with_a_block 0 16 32 ≡ Some 8
 unfolding with_a_block answer chosen fits starts starts_within next good
 a_whole_block_is_taken = refl
 
-more_is_nowhere : answer with_a_block 0 16 48 ≡ Nowhere
+more_is_nowhere : answer with_a_block 0 16 48 ≡ None
 unfolding with_a_block answer chosen fits starts starts_within next good
 more_is_nowhere = refl
 

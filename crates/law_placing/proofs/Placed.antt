@@ -16,8 +16,7 @@ use Rattle.blocks.specs.Header.{size, kind, free, holder, start}
 use Rattle.blocks.specs.Walk.{good, next, starts}
 use Rattle.blocks.proofs.Walk.{good_is, is_good, next_good, next_up, starts_more}
 use Rattle.blocks.proofs.Starts.{starts_in, starts_same, next_same}
-use Rattle.headers.specs.Header.{Outside}
-use Rattle.law_areas.specs.Area.{Tiled, Apart, Blank, bytes, free_size, free_bytes, used_bytes}
+use Rattle.law_areas.specs.Area.{Tiled, Apart, Blank, bytes, free_size, free_bytes}
 use Rattle.law_areas.proofs.Row.{in_first, in_second, in_either, total_parts, Block, block_of, blocks_fill_the_area, free_and_used, Parted, parted_at}
 use Rattle.placing.specs.Place.{placed}
 use Rattle.placing.proofs.Chosen.{Chosen}

@@ -6,13 +6,13 @@ use mathlib.Core.List.{List, [], ◌∷◌}
 use mathlib.Core.Logic.{⊎_elim, ◌⊎◌, inl, inr}
 use native.Mathlib.Omega.{arith}
 use borrow.Author.Tests.{lt-ltb, le-leb}
+use Rattle.std.specs.Prelude.{Some}
 use Rattle.words.specs.Each.{In}
 use Rattle.words.proofs.Tests.{false_true}
 use Rattle.blocks.specs.Header.{size, free}
 use Rattle.blocks.specs.Walk.{starts}
 use Rattle.blocks.proofs.Starts.{Rising, rising_in, starts_rising, starts_in}
 use Rattle.placing.specs.Place.{fits, first, chosen, answer}
-use Rattle.placing.specs.declared.Placement.TheVariants.{At}
 use Rattle.placing.proofs.Chosen.{not_fitting, not_fit}
 use Rattle.placing.proofs.Answer.{answer_at, placed_at_a_chosen_block}
 use Rattle.law_placing.specs.Rule.{LowestEnough, PlacedAtTheLowest}
@@ -43,7 +43,7 @@ pub placed_at_the_lowest : PlacedAtTheLowest
 unfolding chosen fits answer
 placed_at_the_lowest p base e n i = (to, back)
   where
-    to : answer p base e n ≡ At i → LowestEnough p base e n i
+    to : answer p base e n ≡ Some i → LowestEnough p base e n i
     to h =
         let a = answer_at p base e n i h in
         let C = placed_at_a_chosen_block p base e n i h in
@@ -54,7 +54,7 @@ placed_at_the_lowest p base e n i = (to, back)
           lowest = λ j m l. not_fitting (free p j) n (size p j) (below_the_first (fits p n) base e (starts p base e) (starts_rising p base e) j m (subst (λ (x : ℕ). j < x) (sym a.1) l));
         }
 
-    back : LowestEnough p base e n i → answer p base e n ≡ At i
+    back : LowestEnough p base e n i → answer p base e n ≡ Some i
     back L =
         let z : first (fits p n) e (starts p base e) ≡ i =
         first_is (fits p n) base e (starts p base e) (starts_rising p base e) i L.there (rw (L.is_free, le-leb n (size p i) L.enough)) (λ j m l. not_fit (free p j) n (size p j) (L.lowest j m l)) in

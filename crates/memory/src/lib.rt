@@ -3,6 +3,7 @@
 
 ghost use Rattle.std.specs.Prelude.{◌≡◌, true, ◌-◌, ◌<◌};
 ghost use Rattle.picture.specs.Layout.{greatest_size};
+ghost use Rattle.picture.specs.Answers.{answer_key};
 ghost use Rattle.sound.specs.Sound.{sound};
 ghost use Rattle.calls.specs.Outcome.{Meets};
 ghost use Rattle.calls.specs.Call.{outcome};
@@ -12,8 +13,8 @@ ghost use Rattle.memory.specs.Memory.{plain_room, is_plain_room, block_before, g
 
 use blocks::next_block;
 use calls::{A0, D1, D2};
-use picture::{Area, JobFound};
-use placing::Placement;
+use headers::Block;
+use picture::{Area, Refusal};
 use words::{put, word};
 
 // D1 to A3 become 0.
@@ -34,18 +35,19 @@ pub fn room_of(length: u32) -> u32
 }
 
 // $6: the longest free room of the transient area.
-pub fn longest_room(p: &mut [u32], d: &mut [u32]) -> i32
-    ensures { Meets (outcome longest_room p.old d.old) result p.new d.new }
+pub fn longest_room(p: &mut [u32], d: &mut [u32]) -> Result<(), Refusal>
+    ensures { Meets (outcome longest_room p.old d.old) (answer_key result) p.new d.new }
 {
     let base = picture::area_from(p, Area::Transient);
     let e = picture::area_upto(p, Area::Transient);
     let length = placing::longest_free(p, base, e);
     clear_registers(d);
     put(d, D1, room_of(length));
-    picture::DONE
+    Ok(())
 }
 
 // A length that can be taken.
+#[tactic(auto, unfolding(crate::specs::Memory::length_good))]
 pub fn is_length(n: u32) -> bool
     ensures { result ≡ length_good n }
 {
@@ -53,6 +55,7 @@ pub fn is_length(n: u32) -> bool
 }
 
 // D1 is the room of the block of this length at i, A0 its first byte; the others become 0.
+#[tactic(auto, unfolding(crate::specs::Memory::room_registers))]
 pub fn answer_room(d: &mut [u32], length: u32, i: usize)
     requires { i < greatest_size }
     ensures { d.new ≡ room_registers length i d.old }
@@ -63,27 +66,33 @@ pub fn answer_room(d: &mut [u32], length: u32, i: usize)
 }
 
 // $18: takes heap space for an owner.
-pub fn take(p: &mut [u32], d: &mut [u32]) -> i32
+pub fn take(p: &mut [u32], d: &mut [u32]) -> Result<(), Refusal>
     requires { sound p.old ≡ true }
-    ensures { Meets (outcome take p.old d.old) result p.new d.new }
+    ensures { Meets (outcome take p.old d.old) (answer_key result) p.new d.new }
 {
     let n = word(d, D1);
     if !is_length(n) {
-        return picture::BAD_PARAMETER;
+        return Err(Refusal::BadParameter);
     }
     let owner = calls::number_meant(p, word(d, D2));
-    let JobFound::At(_) = picture::job_at(p, owner) else {
-        return picture::INVALID_JOB;
+    let Some(_) = picture::entry_at(p, owner) else {
+        return Err(Refusal::InvalidJob);
     };
     let length = rooms::block_length(n as u64);
-    let Placement::At(i) = rooms::place_in(p, Area::Heap, length, blocks::PLAIN, owner.0, 0) else {
-        return picture::OUT_OF_MEMORY;
+    let block = Block {
+        kind: blocks::PLAIN,
+        owner: owner.0,
+        start: 0,
+    };
+    let Some(i) = rooms::place_in(p, Area::Heap, length, block) else {
+        return Err(Refusal::OutOfMemory);
     };
     answer_room(d, length as u32, i);
-    picture::DONE
+    Ok(())
 }
 
 // The block at i is plain and its first byte of room is at the byte offset a.
+#[tactic(auto, unfolding(crate::specs::Memory::plain_room))]
 pub fn is_plain_at(p: &[u32], a: u32, i: usize) -> bool
     requires { i < 8589934592 }
     ensures { result ≡ plain_room p.now a i }
@@ -117,17 +126,17 @@ pub fn block_before(a: u32) -> usize
 }
 
 // $19: gives heap space back.
-pub fn give_back(p: &mut [u32], d: &mut [u32]) -> i32
+pub fn give_back(p: &mut [u32], d: &mut [u32]) -> Result<(), Refusal>
     requires { sound p.old ≡ true }
-    ensures { Meets (outcome give_back p.old d.old) result p.new d.new }
+    ensures { Meets (outcome give_back p.old d.old) (answer_key result) p.new d.new }
 {
     let a = word(d, A0);
     if !is_plain_room(p, a) {
-        return picture::BAD_PARAMETER;
+        return Err(Refusal::BadParameter);
     }
     let base = picture::area_from(p, Area::Heap);
     let e = picture::area_upto(p, Area::Heap);
     freeing::sweep(p, base, e, 0, block_before(a));
     clear_registers(d);
-    picture::DONE
+    Ok(())
 }

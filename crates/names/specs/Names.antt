@@ -1,36 +1,32 @@
 -- Document 01 (rule 91): "name PIPE_n, either case". A name is a list of bytes of any length.
-use Rattle.std.specs.Prelude.{ℕ, ◌+◌, ◌-◌, ◌*◌, Bool, true, false, ◌&&◌, ◌||◌, cond, List, [], ◌∷◌, length, get_or, drop, leb, eqb, ℤ}
+use Rattle.std.specs.Prelude.{ℕ, ◌+◌, ◌-◌, ◌*◌, Bool, true, false, ◌&&◌, ◌||◌, cond, List, [], ◌∷◌, length, get_or, drop, leb, eqb, ℤ, Result, Ok, Err}
 use Rattle.words.specs.Each.{all}
 use Rattle.picture.specs.Keys.{done, not_found, bad_name, bad_parameter}
 use Rattle.sound_areas.specs.Rules.{longest_queue}
 use Rattle.calls.specs.Call.{Check}
-use Rattle.names.specs.declared.Name.{Name}
-use Rattle.names.specs.declared.Name.TheVariants.{Pipe, Foreign, Unnumbered, Bare}
+use Rattle.names.specs.declared.NameFault.{NameFault}
+use Rattle.names.specs.declared.NameFault.TheVariants.{Foreign, Unnumbered, Bare}
 
 -- the key of each answer: a good name; -7, -12, -15
-unfoldable pub key_of : Name → ℤ
-key_of (Pipe n) = done
-key_of Foreign = not_found
-key_of Unnumbered = bad_name
-key_of Bare = bad_parameter
+unfoldable pub key_of : Result ℕ NameFault → ℤ
+key_of (Ok n) = done
+key_of (Err Foreign) = not_found
+key_of (Err Unnumbered) = bad_name
+key_of (Err Bare) = bad_parameter
 
 -- the name is PIPE_n
-unfoldable pub good : Name → Bool
-good (Pipe n) = true
-good Foreign = false
-good Unnumbered = false
-good Bare = false
+unfoldable pub good : Result ℕ NameFault → Bool
+good (Ok n) = true
+good (Err fault) = false
 
 -- the check of a name
-abbrev pub name_check : Name → Check
+abbrev pub name_check : Result ℕ NameFault → Check
 name_check n = (good n, key_of n)
 
--- the n of PIPE_n
-unfoldable pub number_in : Name → ℕ
-number_in (Pipe n) = n
-number_in Foreign = 0
-number_in Unnumbered = 0
-number_in Bare = 0
+-- the n of PIPE_n; another name is refused, and 0 stands for it
+unfoldable pub number_in : Result ℕ NameFault → ℕ
+number_in (Ok n) = n
+number_in (Err fault) = 0
 
 -- the byte at i, 0 past the end
 abbrev pub byte : List ℕ → ℕ → ℕ
@@ -58,9 +54,9 @@ unfoldable pub number : List ℕ → Bool
 number l = (leb 1 (length l) && leb (length l) 5) && (all digit l && (leb 1 (worth 0 l) && leb (worth 0 l) longest_queue))
 
 -- "PIPE_ followed by anything but 1 to 5 digits worth 1 to 32,766": -12
-unfoldable pub numbered : List ℕ → Name
-numbered l = cond (number l) (Pipe (worth 0 l)) Unnumbered
+unfoldable pub numbered : List ℕ → Result ℕ NameFault
+numbered l = cond (number l) (Ok (worth 0 l)) (Err Unnumbered)
 
 -- "name isn't PIPE": -7; "bare PIPE: -15; PIPE and then a character other than _: -7"
-unfoldable pub named : List ℕ → Name
-named s = cond (pipe s) (cond (eqb (length s) 4) Bare (cond (eqb (byte s 4) 95) (numbered (drop 5 s)) Foreign)) Foreign
+unfoldable pub named : List ℕ → Result ℕ NameFault
+named s = cond (pipe s) (cond (eqb (length s) 4) (Err Bare) (cond (eqb (byte s 4) 95) (numbered (drop 5 s)) (Err Foreign))) (Err Foreign)

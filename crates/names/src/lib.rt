@@ -1,17 +1,32 @@
 // The reader of pipe names.
 #![tactic(auto)]
 
-ghost use Rattle.std.specs.Prelude.{◌≡◌, ◌≤◌, drop};
-ghost use Rattle.sound_areas.specs.Rules.{longest_queue};
-ghost use Rattle.names.specs.Names.{key_of, good, number_in, byte, letter, pipe, digit, numbered, named};
+ghost use Rattle.std.specs.Prelude.{◌≡◌, Err, drop};
+ghost use Rattle.picture.specs.Answers.{refusal_key};
+ghost use Rattle.names.specs.Names.{key_of, byte, pipe, numbered, named};
 
-// PIPE_n with its n; a name that isn't PIPE; PIPE_ with no good number; bare PIPE.
-#[derive(Clone, Copy)]
-pub enum Name {
-    Pipe(u32),
+use picture::Refusal;
+
+// Why a name isn't PIPE_n: it isn't PIPE; it is PIPE_ with no good number; it is bare PIPE.
+#[derive(Clone, Copy, Debug, PartialEq, Eq)]
+pub enum NameFault {
     Foreign,
     Unnumbered,
     Bare,
+}
+
+// The refusal of a name, by its key.
+impl From<NameFault> for Refusal {
+    ghost from_gives = { λ fault refusal. refusal_key refusal ≡ key_of (Err fault) };
+
+    #[tactic(auto, unfolding(crate::specs::Names::key_of))]
+    fn from(fault: NameFault) -> Refusal {
+        match fault {
+            NameFault::Foreign => Refusal::NotFound,
+            NameFault::Unnumbered => Refusal::BadName,
+            NameFault::Bare => Refusal::BadParameter,
+        }
+    }
 }
 
 // Where the underscore and the first digit stand, and how many digits a number has at most.
@@ -21,117 +36,68 @@ const DIGITS_AT: usize = 5;
 
 const MOST_DIGITS: usize = 5;
 
-// The key of each answer.
-pub fn key_of(name: Name) -> i32
-    ensures { result ≡ key_of name }
-{
-    match name {
-        Name::Pipe(_) => picture::DONE,
-        Name::Foreign => picture::NOT_FOUND,
-        Name::Unnumbered => picture::BAD_NAME,
-        Name::Bare => picture::BAD_PARAMETER,
-    }
-}
-
-// The name is PIPE_n.
-pub fn is_good(name: Name) -> bool
-    ensures { result ≡ good name }
-{
-    match name {
-        Name::Pipe(_) => true,
-        Name::Foreign => false,
-        Name::Unnumbered => false,
-        Name::Bare => false,
-    }
-}
-
-// The n of PIPE_n.
-pub fn number_in(name: Name) -> u32
-    ensures { result ≡ number_in name }
-{
-    match name {
-        Name::Pipe(n) => n,
-        Name::Foreign => 0,
-        Name::Unnumbered => 0,
-        Name::Bare => 0,
-    }
-}
-
 // The byte at i, 0 past the end.
 pub fn byte_at(name: &[u8], i: usize) -> u8
     ensures { result ≡ byte name.now i }
 {
-    if i < name.len() {
-        return name[i];
-    }
-    0
-}
-
-// The byte is a letter, given as a capital, in either case.
-pub fn is_letter(capital: u8, b: u8) -> bool
-    requires { capital ≤ 90 }
-    ensures { result ≡ letter capital b }
-{
-    (b == capital) | (b == capital + 32)
+    name.get(i).copied().unwrap_or(0)
 }
 
 // The name starts with PIPE.
 pub fn is_pipe(name: &[u8]) -> bool
     ensures { result ≡ pipe name.now }
 {
-    is_letter(b'P', byte_at(name, 0))
-        & (is_letter(b'I', byte_at(name, 1))
-            & (is_letter(b'P', byte_at(name, 2)) & is_letter(b'E', byte_at(name, 3))))
+    UNDERSCORE_AT <= name.len() && name[..UNDERSCORE_AT].eq_ignore_ascii_case(b"PIPE")
 }
 
-// The byte is a digit.
-pub fn is_digit(b: u8) -> bool
-    ensures { result ≡ digit b }
+// The n of PIPE_n, by its digits.
+#[tactic(auto, using(crate::proofs::Digits::too_many))]
+fn read_digits(digits: &[u8]) -> Result<u32, NameFault>
+    ensures { result ≡ numbered digits.now }
 {
-    (b'0' <= b) & (b <= b'9')
+    if MOST_DIGITS < digits.len() {
+        return Err(NameFault::Unnumbered);
+    }
+    let mut n: u32 = 0;
+    for b in digits {
+        if !b.is_ascii_digit() {
+            return Err(NameFault::Unnumbered);
+        }
+        n = n * 10 + (*b - b'0') as u32;
+    }
+    if n < 1 {
+        return Err(NameFault::Unnumbered);
+    }
+    if sound_areas::LONGEST_QUEUE < n as usize {
+        return Err(NameFault::Unnumbered);
+    }
+    Ok(n)
 }
 
-// The name PIPE_n by what follows PIPE_.
-pub fn read_number(name: &[u8]) -> Name
+// The n of PIPE_n, by what follows PIPE_.
+#[tactic(auto, using(crate::proofs::Digits::too_few))]
+pub fn read_number(name: &[u8]) -> Result<u32, NameFault>
     ensures { result ≡ numbered (drop 5 name.now) }
 {
     if name.len() <= DIGITS_AT {
-        return Name::Unnumbered;
+        return Err(NameFault::Unnumbered);
     }
-    if DIGITS_AT + MOST_DIGITS < name.len() {
-        return Name::Unnumbered;
-    }
-    let mut n: u32 = 0;
-    let mut i = DIGITS_AT;
-    while i < name.len() {
-        let b = name[i];
-        if !is_digit(b) {
-            return Name::Unnumbered;
-        }
-        n = n * 10 + (b - b'0') as u32;
-        i += 1;
-    }
-    if n < 1 {
-        return Name::Unnumbered;
-    }
-    if sound_areas::LONGEST_QUEUE < n as usize {
-        return Name::Unnumbered;
-    }
-    Name::Pipe(n)
+    read_digits(&name[DIGITS_AT..])
 }
 
-// What a name is.
-pub fn read_name(name: &[u8]) -> Name
+// The n of a name PIPE_n.
+#[tactic(auto, unfolding(crate::specs::Names::named))]
+pub fn read_name(name: &[u8]) -> Result<u32, NameFault>
     ensures { result ≡ named name.now }
 {
     if !is_pipe(name) {
-        return Name::Foreign;
+        return Err(NameFault::Foreign);
     }
     if name.len() == UNDERSCORE_AT {
-        return Name::Bare;
+        return Err(NameFault::Bare);
     }
     if byte_at(name, UNDERSCORE_AT) != b'_' {
-        return Name::Foreign;
+        return Err(NameFault::Foreign);
     }
     read_number(name)
 }

@@ -1,12 +1,10 @@
 -- Document 01 (rule 97): "Placing takes the low end of the lowest free block whose length is enough; the rest stays free; room is cleared."
 -- An area is the longwords from base up to e. In plain words: `placed_at_the_lowest` (law_placing/proofs/Rule.antt).
-use Rattle.std.specs.Prelude.{ℕ, ◌+◌, ◌-◌, ◌/◌, ◌≡◌, Bool, ◌&&◌, cond, List, [], ◌∷◌, leb, ltb}
+use Rattle.std.specs.Prelude.{ℕ, ◌+◌, ◌-◌, ◌/◌, ◌≡◌, Bool, ◌&&◌, cond, List, [], ◌∷◌, leb, ltb, Option, Some, None}
 use Rattle.words.specs.Words.{clear}
 use Rattle.blocks.specs.Header.{header_width, size, free}
 use Rattle.blocks.specs.Walk.{starts}
 use Rattle.headers.specs.Header.{header}
-use Rattle.placing.specs.declared.Placement.{Placement}
-use Rattle.placing.specs.declared.Placement.TheVariants.{At, Nowhere}
 
 -- the block at i is free and its length is enough for n bytes
 unfoldable pub fits : List ℕ → ℕ → ℕ → Bool
@@ -30,14 +28,14 @@ unfoldable pub placed : List ℕ → ℕ → ℕ → ℕ → ℕ → ℕ → Lis
 placed p i n k o s = clear (n / 4 - header_width) (header (split p i n) i n k o s) (i + header_width)
 
 -- the answer
-unfoldable pub answer : List ℕ → ℕ → ℕ → ℕ → Placement
-answer p base e n = cond (ltb (chosen p base e n) e) (At (chosen p base e n)) Nowhere
+unfoldable pub answer : List ℕ → ℕ → ℕ → ℕ → Option ℕ
+answer p base e n = cond (ltb (chosen p base e n) e) (Some (chosen p base e n)) None
 
 -- the picture after it
 unfoldable pub after : List ℕ → ℕ → ℕ → ℕ → ℕ → ℕ → ℕ → List ℕ
 after p base e n k o s = cond (ltb (chosen p base e n) e) (placed p (chosen p base e n) n k o s) p
 
-pub record Placing (p : List ℕ) (base e n k o s : ℕ) (r : Placement) (q : List ℕ) : Type 0 where
+pub record Placing (p : List ℕ) (base e n k o s : ℕ) (r : Option ℕ) (q : List ℕ) : Type 0 where
   pub answers : r ≡ answer p base e n
   pub leaves : q ≡ after p base e n k o s
 

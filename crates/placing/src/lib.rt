@@ -5,17 +5,11 @@ ghost use Rattle.std.specs.Prelude.{◌≡◌, ◌<◌, ◌≤◌, length};
 ghost use Rattle.placing.specs.Place.{fits, chosen, split, placed, longer, longest, Placing};
 
 use blocks::{FREE, HEADER, KIND, next_block};
-use headers::put_header;
+use headers::{Block, FREE_BLOCK, put_header};
 use words::{clear, word};
 
-// Where a block was placed.
-#[derive(Clone, Copy)]
-pub enum Placement {
-    At(usize),
-    Nowhere,
-}
-
 // The block at i is free and its length is enough for n bytes.
+#[tactic(auto, unfolding(crate::specs::Place::fits))]
 pub fn is_fit(p: &[u32], i: usize, n: u64) -> bool
     requires { i < 18446744073709551615 }
     ensures { result ≡ fits p.now n i }
@@ -41,48 +35,44 @@ pub fn choose(p: &[u32], base: usize, e: usize, n: u64) -> usize
 }
 
 // What is left of the block at i after n bytes is a free block.
+#[tactic(auto, unfolding(crate::specs::Place::split))]
 pub fn split_block(p: &mut [u32], i: usize, n: u32)
     requires { i < length p.old }
     ensures { p.new ≡ split p.old i n }
 {
     let size = word(p, i);
     if n < size {
-        put_header(p, i + (n / 4) as usize, size - n, FREE, 0, 0);
+        put_header(p, i + (n / 4) as usize, size - n, FREE_BLOCK);
     }
 }
 
 // A block of n bytes stands at the low end of the free block at i, its room cleared.
-pub fn place_at(p: &mut [u32], i: usize, n: u32, kind: u32, owner: u32, start: u32)
+#[tactic(auto, unfolding(crate::specs::Place::placed), using(crate::proofs::Walk::room_count))]
+pub fn place_at(p: &mut [u32], i: usize, n: u32, block: Block)
     requires { i < length p.old }
-    ensures { p.new ≡ placed p.old i n kind owner start }
+    ensures { p.new ≡ placed p.old i n block.kind block.owner block.start }
 {
     split_block(p, i, n);
-    put_header(p, i, n, kind, owner, start);
+    put_header(p, i, n, block);
     clear(p, i + HEADER, i + (n / 4) as usize);
 }
 
 // A block of n bytes stands in the chosen free block, if there is one.
-pub fn place(
-    p: &mut [u32],
-    base: usize,
-    e: usize,
-    n: u64,
-    kind: u32,
-    owner: u32,
-    start: u32,
-) -> Placement
+#[tactic(auto, unfolding(crate::specs::Place::answer, crate::specs::Place::after))]
+pub fn place(p: &mut [u32], base: usize, e: usize, n: u64, block: Block) -> Option<usize>
     requires { e ≤ length p.old }
-    ensures { Placing p.old base e n kind owner start result p.new }
+    ensures { Placing p.old base e n block.kind block.owner block.start result p.new }
 {
     let at = choose(p, base, e, n);
     if at < e {
-        place_at(p, at, n as u32, kind, owner, start);
-        return Placement::At(at);
+        place_at(p, at, n as u32, block);
+        return Some(at);
     }
-    Placement::Nowhere
+    None
 }
 
 // The length of the block at i if it is free and longer than best, else best.
+#[tactic(auto, unfolding(crate::specs::Place::longer))]
 pub fn longer_of(p: &[u32], best: u32, i: usize) -> u32
     requires { i < 18446744073709551615 }
     ensures { result ≡ longer p.now best i }

@@ -7,13 +7,12 @@ use native.Mathlib.Omega.{arith}
 use lib.Dec.{ltb}
 use borrow.Author.Tests.{ltb-true, ltb-false, lt-ltb, le-ltb}
 use lib.IntN.{ℤ}
+use Rattle.std.proofs.Common.{Option, Some, None}
 use Rattle.words.proofs.Tests.{false_true}
 use Rattle.picture.specs.Keys.{done, out_of_memory}
 use Rattle.picture.specs.Layout.{from, upto}
 use Rattle.picture.specs.declared.Area.{Area}
 use Rattle.placing.specs.Place.{chosen, answer}
-use Rattle.placing.specs.declared.Placement.{Placement}
-use Rattle.placing.specs.declared.Placement.TheVariants.{At, Nowhere}
 use Rattle.placing.proofs.Chosen.{Chosen, NoRoom, chosen_is_free_and_enough, chosen_is_not_past_the_end, none_is_chosen_where_all_are_shorter, all_are_shorter_where_none_is_chosen}
 use Rattle.placing.proofs.Answer.{answer_at}
 use Rattle.rooms.specs.Room.{room_at, room_check, room_place, spot}
@@ -64,7 +63,7 @@ module _ (p : List ℕ) (a : Area) (n : ℕ) where
   unfolding has_room answer
   there_is_room_where_the_check_passes h = go (has_room p a n) h
     where
-      go : (b : Bool) → (room_check (cond b (At (choice p a n)) Nowhere)).0 ≡ true → b ≡ true
+      go : (b : Bool) → (room_check (cond b (Some (choice p a n)) None)).0 ≡ true → b ≡ true
       go true e = refl
       go false e = e
 
@@ -77,7 +76,7 @@ module _ (p : List ℕ) (a : Area) (n : ℕ) where
   the_check_fails_where_there_is_no_room h = rw h
 
   -- what an answer of placing in the area says
-  pub placed_there : (i : ℕ) → answer p (from p a) (upto p a) n ≡ At i → (has_room p a n ≡ true) × ((spot p a n ≡ i) × (i < upto p a))
+  pub placed_there : (i : ℕ) → answer p (from p a) (upto p a) n ≡ Some i → (has_room p a n ≡ true) × ((spot p a n ≡ i) × (i < upto p a))
   unfolding has_room
   placed_there i h =
       let r = answer_at p (from p a) (upto p a) n i h in
@@ -86,6 +85,6 @@ module _ (p : List ℕ) (a : Area) (n : ℕ) where
       (lt-ltb _ _ l, (ap room_place h, omega arith))
 
 -- the check for room gives no other key than its own
-pub room_check_gives_no_other : (k : ℤ) (r : Placement) → (out_of_memory ≡ k → ⊥) → (room_check r).0 ≡ false → (room_check r).1 ≡ k → ⊥
-room_check_gives_no_other k (At i) n f e = false_true (sym f)
-room_check_gives_no_other k Nowhere n f e = n e
+pub room_check_gives_no_other : (k : ℤ) (r : Option ℕ) → (out_of_memory ≡ k → ⊥) → (room_check r).0 ≡ false → (room_check r).1 ≡ k → ⊥
+room_check_gives_no_other k (Some i) n f e = false_true (sym f)
+room_check_gives_no_other k None n f e = n e

@@ -5,13 +5,12 @@ use mathlib.Core.List.{List}
 use lib.ListN.{length, length-set}
 use lib.Seq.{get_or-set_other}
 use native.Mathlib.Omega.{arith}
+use Rattle.std.specs.Prelude.{Some}
 use Rattle.words.specs.Words.{word, put}
 use Rattle.picture.specs.Layout.{heap_base, from, upto}
 use Rattle.picture.specs.declared.Area.{Area}
 use Rattle.blocks.proofs.Starts.{starts_in}
 use Rattle.placing.specs.Place.{answer, after}
-use Rattle.placing.specs.declared.Placement.TheVariants.{At}
-use Rattle.placing.proofs.Chosen.{Chosen}
 use Rattle.placing.proofs.Answer.{placed_at_a_chosen_block, after_at}
 use Rattle.law_placing.proofs.Written.{length_placed, placed_before}
 use Rattle.rooms.proofs.Sizes.{Lies}
@@ -22,7 +21,7 @@ pub record Behind (p q : List ℕ) (i : ℕ) : Type 0 where
   pub behind : heap_base ≤ i
   pub tables : (j : ℕ) → j < heap_base → word q j ≡ word p j
 
-pub placing_leaves_the_tables : (p q : List ℕ) (a : Area) → Lies p a → (n k o s i : ℕ) → answer p (from p a) (upto p a) n ≡ At i → q ≡ after p (from p a) (upto p a) n k o s → Behind p q i
+pub placing_leaves_the_tables : (p q : List ℕ) (a : Area) → Lies p a → (n k o s i : ℕ) → answer p (from p a) (upto p a) n ≡ Some i → q ≡ after p (from p a) (upto p a) n k o s → Behind p q i
 placing_leaves_the_tables p q a L n k o s i h e =
     let b = (starts_in p (from p a) (upto p a) i (placed_at_a_chosen_block p (from p a) (upto p a) n i h).there).0 in
     let f = L.behind in

@@ -6,8 +6,8 @@ ghost use Rattle.picture.specs.Layout.{from, upto, greatest_size};
 ghost use Rattle.placing.specs.Place.{Placing};
 ghost use Rattle.rooms.specs.Room.{block_length, first_byte, header_byte};
 
+use headers::Block;
 use picture::Area;
-use placing::Placement;
 
 // The length of a block with n bytes of room.
 pub fn block_length(n: u64) -> u64
@@ -34,11 +34,11 @@ pub fn first_byte(i: usize) -> u32
 }
 
 // A block of n bytes stands in the area, if it has room for it.
-pub fn place_in(p: &mut [u32], a: Area, n: u64, kind: u32, owner: u32, start: u32) -> Placement
+pub fn place_in(p: &mut [u32], a: Area, n: u64, block: Block) -> Option<usize>
     requires { upto p.old a ≤ length p.old }
-    ensures { Placing p.old (from p.old a) (upto p.old a) n kind owner start result p.new }
+    ensures { Placing p.old (from p.old a) (upto p.old a) n block.kind block.owner block.start result p.new }
 {
     let base = picture::area_from(p, a);
     let e = picture::area_upto(p, a);
-    placing::place(p, base, e, n, kind, owner, start)
+    placing::place(p, base, e, n, block)
 }

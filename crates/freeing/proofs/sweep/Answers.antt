@@ -2,7 +2,6 @@ use Rattle.freeing.proofs.Steps.{length_freed, length_joined, sweep_end, sweep_m
 use Rattle.freeing.specs.Sweep.{swept}
 use Rattle.blocks.proofs.Walk.{next_falls}
 use lib.ListN.{length}
-use Prim.Native.Nat.{◌-◌}
 use mathlib.Core.Path.{refl, sym, ap, ◌∙◌}
 use Rattle.freeing.proofs.sweep.Goals as goal
 

@@ -1,5 +1,4 @@
 use mathlib.Core.Path.{refl, sym, ◌∙◌}
-use Prim.Native.Nat.{◌-◌}
 use Rattle.blocks.proofs.Walk.{next_falls}
 use Rattle.memory.specs.Memory.{is_plain_room}
 use Rattle.memory.proofs.Ways.{any_end, any_here, any_more}

@@ -1,7 +1,6 @@
 use Rattle.placing.proofs.Walk.{first_end, first_here, first_more}
 use Rattle.placing.specs.Place.{chosen}
 use Rattle.blocks.proofs.Walk.{next_falls}
-use Prim.Native.Nat.{◌-◌}
 use mathlib.Core.Path.{refl, sym, ◌∙◌}
 use native.Mathlib.Omega.{arith}
 use Rattle.placing.proofs.choose.Goals as goal

@@ -1,7 +1,6 @@
 use Rattle.placing.proofs.Walk.{longest_end, longest_more}
 use Rattle.placing.specs.Place.{longest}
 use Rattle.blocks.proofs.Walk.{next_falls}
-use Prim.Native.Nat.{◌-◌}
 use mathlib.Core.Path.{refl, sym, ◌∙◌}
 use Rattle.placing.proofs.longest_free.Goals as goal
 
