@@ -1,9 +1,9 @@
 // Sets of positions, by value: bit k is set where position k is a member.
 #![tactic(auto)]
 
-ghost use Rattle.std.specs.Prelude.{◌≡◌, cond, ◌<◌, ◌≤◌};
+ghost use Rattle.std.specs.Prelude.{◌≡◌, ℕ, Bool, cond, ◌<◌, ◌≤◌};
 ghost use Rattle.words.specs.Bits.{bit};
-ghost use Rattle.masks.specs.Masks.{set_width, with_bit, without_bit, without, lowest_clear};
+ghost use Rattle.masks.specs.Masks.{set_width, with_bit, without_bit, without, mask, lowest_clear};
 
 // Position k is a member.
 pub fn is_member(set: u64, k: usize) -> bool
@@ -37,6 +37,21 @@ pub fn with_passing(set: u64, k: usize, passes: bool) -> u64
     ensures { result ≡ cond passes (with_bit set k) set }
 {
     set | ((passes as u64) << k)
+}
+
+// The positions below `count` that pass the test.
+pub fn positions_passing<F: Fn(usize) -> bool>(count: usize, passes: F) -> u64
+    ghost test: { ℕ → Bool }
+    requires few { count ≤ set_width }
+    requires safe { (k : ℕ) → k < count → F.pre passes k }
+    requires tells { (k : ℕ) (b : Bool) → k < count → F.post passes k b → b ≡ test k }
+    ensures { result ≡ mask test count }
+{
+    let mut set: u64 = 0;
+    for k in 0..count {
+        set = with_passing(set, k, passes(k));
+    }
+    set
 }
 
 // The members of the set that aren't in the other.
