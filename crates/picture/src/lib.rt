@@ -384,6 +384,7 @@ pub fn entry_at<N: Number>(p: &[u32], number: N) -> Option<usize>
 }
 
 // The lowest position that is free, or the number of positions for none: by the mask alone, in as many steps however many are in use.
+// That number is no Option, since the project asks for this form (docs/DECISIONS.md 27).
 #[tactic(auto, unfolding(crate::specs::Numbers::free_position), using(crate::proofs::Members::positions_within, masks::proofs::Lowest::lowest_clear_is, masks::proofs::Lowest::lowest_clear_within))]
 pub fn free_position(p: &[u32], t: Table) -> usize
     requires { heap_base ≤ length p.now }
