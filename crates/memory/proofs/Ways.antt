@@ -70,14 +70,3 @@ module _ (p d : List ℕ) where
 pub length_small : (n : ℕ) → length_good n ≡ true → n < 2147483648
 unfolding length_good
 length_small n h = ltb-true n 2147483648 (both (leb 1 n) (ltb n 2147483648) h).1
-
--- a walk that looks for a block
-module _ (p : List ℕ) (f : ℕ → Bool) (i e : ℕ) where
-  pub any_end : e ≤ i → any f (starts p i e) ≡ false
-  any_end h = rw (starts_end p i e h)
-
-  pub any_here : i < e → f i ≡ true → any f (starts p i e) ≡ true
-  any_here l h = rw (starts_more p i e l, h)
-
-  pub any_more : i < e → f i ≡ false → any f (starts p i e) ≡ any f (starts p (next p i e) e)
-  any_more l h = rw (starts_more p i e l, h)

@@ -11,7 +11,7 @@ ghost use Rattle.calls.specs.Registers.{cleared};
 ghost use Rattle.memory.specs.Memory.{length_good, room_registers, longest_room, take};
 ghost use Rattle.memory.specs.Memory.{plain_room, is_plain_room, block_before, give_back};
 
-use blocks::next_block;
+use blocks::Blocks;
 use calls::{A0, D1, D2};
 use headers::Block;
 use picture::{Area, Refusal};
@@ -104,13 +104,10 @@ pub fn is_plain_at(p: &[u32], a: u32, i: usize) -> bool
 pub fn is_plain_room(p: &[u32], a: u32) -> bool
     ensures { result ≡ is_plain_room p.now a }
 {
-    let e = picture::area_upto(p, Area::Heap);
-    let mut i = picture::area_from(p, Area::Heap);
-    while i < e {
+    for i in Blocks::of_area(p, Area::Heap) {
         if is_plain_at(p, a, i) {
             return true;
         }
-        i = next_block(p, i, e);
     }
     false
 }
