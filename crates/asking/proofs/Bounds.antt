@@ -1,14 +1,13 @@
 -- What a sound picture bounds: a live job's priority and the base of its block.
-use Prim.Native.Nat.{ℕ, suc, ◌+◌, ◌*◌, ◌≤◌, ◌<◌}
-use mathlib.Core.Path.{◌≡◌, refl, sym, ◌∙◌, subst}
-use mathlib.Core.Bool.{Bool, true, false, ◌&&◌}
-use mathlib.Core.Logic.{⊎_elim, ◌⊎◌, inl, inr}
+use Prim.Native.Nat.{ℕ, ◌*◌, ◌≤◌, ◌<◌}
+use mathlib.Core.Path.{◌≡◌}
+use mathlib.Core.Bool.{true}
+use mathlib.Core.Logic.{⊎_elim}
 use mathlib.Core.List.{List}
-use lib.Dec.{leb}
 use native.Mathlib.Omega.{arith}
 use borrow.Author.Tests.{le-leb}
 use Rattle.words.proofs.Tests.{lt_or_ge}
-use Rattle.picture.specs.Layout.{positions, greatest_size, from, upto}
+use Rattle.picture.specs.Layout.{greatest_size, from, upto}
 use Rattle.picture.specs.Records.{base, priority, used}
 use Rattle.picture.specs.declared.Table.TheVariants.{Jobs}
 use Rattle.picture.specs.declared.Area.TheVariants.{Transient}

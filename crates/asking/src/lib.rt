@@ -9,11 +9,12 @@ ghost use Rattle.picture.specs.Layout.{greatest_priority};
 ghost use Rattle.sound.specs.Sound.{sound};
 ghost use Rattle.calls.specs.Outcome.{Meets};
 ghost use Rattle.calls.specs.Call.{outcome};
+ghost use Rattle.picture.specs.Answers.{answer_key};
 ghost use Rattle.asking.specs.Next.{nearer, next_below, next_member};
 ghost use Rattle.asking.specs.Ask.{standing, room, answered, ask};
 
 use calls::number_meant;
-use picture::{JOBS, JobFound, JobNumber, Table, field_of, job_at};
+use picture::{JOBS, JobNumber, Refusal, Table, entry_at, field_of};
 use words::{put, word};
 
 // D3 of a suspended job, but for its priority.
@@ -40,7 +41,7 @@ fn is_nearer(p: &[u32], set: u64, tag: u32, n: u32, k: usize) -> bool
     masks::is_member(set, k)
 }
 
-// The number of the member of the set with the next tag after `tag`, or 0.
+// The number of the member of the set with the next tag after `tag`, or 0, which stands for none here as it does in D1: so says `next_member`.
 pub fn next_member(p: &[u32], set: u64, tag: u32) -> u32
     ensures { result ≡ next_member p.now set tag }
 {
@@ -90,19 +91,19 @@ fn answer(p: &[u32], d: &mut [u32], t: usize, k: usize)
 }
 
 // Trap 1 $2: the job that D1 means, in the tree of the job D2.
-pub fn ask(p: &mut [u32], d: &mut [u32]) -> i32
+pub fn ask(p: &mut [u32], d: &mut [u32]) -> Result<(), Refusal>
     requires { sound p.old ≡ true }
-    ensures { Meets (outcome ask p.old d.old) result p.new d.new }
+    ensures { Meets (outcome ask p.old d.old) (answer_key result) p.new d.new }
 {
-    let JobFound::At(t) = job_at(p, JobNumber(word(d, calls::D2))) else {
-        return picture::INVALID_JOB;
+    let Some(t) = entry_at(p, JobNumber(word(d, calls::D2))) else {
+        return Err(Refusal::InvalidJob);
     };
-    let JobFound::At(k) = job_at(p, number_meant(p, word(d, calls::D1))) else {
-        return picture::INVALID_JOB;
+    let Some(k) = entry_at(p, number_meant(p, word(d, calls::D1))) else {
+        return Err(Refusal::InvalidJob);
     };
     if !tree::is_in_tree(p, t, k) {
-        return picture::INVALID_JOB;
+        return Err(Refusal::InvalidJob);
     }
     answer(p, d, t, k);
-    picture::DONE
+    Ok(())
 }

@@ -1,39 +1,36 @@
 -- What looking up a channel's number tells, and the queue of a channel that is live.
-use Prim.Native.Nat.{ℕ, ◌+◌, ◌*◌, ◌/◌, ◌≤◌, ◌<◌}
+use Prim.Native.Nat.{ℕ, ◌+◌, ◌/◌, ◌≤◌, ◌<◌}
 use mathlib.Core.Path.{◌≡◌, subst}
-use mathlib.Core.Bool.{true, ◌&&◌}
+use mathlib.Core.Bool.{true}
 use mathlib.Core.List.{List}
 use lib.ListN.{length}
-use lib.Dec.{leb}
 use native.Mathlib.Omega.{arith}
 use borrow.Author.Tests.{le-leb}
 use Rattle.words.specs.Each.{In}
-use Rattle.picture.specs.Layout.{heap_base, positions, from, upto}
-use Rattle.picture.specs.Records.{base, used}
+use Rattle.picture.specs.Layout.{heap_base, positions, upto}
+use Rattle.picture.specs.Records.{used}
 use Rattle.picture.specs.Numbers.{position, live, channel_at}
 use Rattle.picture.specs.declared.Table.TheVariants.{Channels}
 use Rattle.picture.specs.declared.Area.TheVariants.{Heap}
-use Rattle.picture.specs.declared.ChannelFound.TheVariants.{At}
-use Rattle.picture.proofs.Numbers.{Live, live_is}
+use Rattle.std.proofs.Common.{Some}
+use Rattle.picture.proofs.Numbers.{live_is}
 use Rattle.picture.proofs.Records.{used_below}
-use Rattle.blocks.specs.Header.{size, queue_length, rounded}
+use Rattle.blocks.specs.Header.{size, queue_length}
 use Rattle.blocks.specs.Walk.{blocks}
-use Rattle.blocks.proofs.Walk.{Good, is_good}
 use Rattle.blocks.proofs.Starts.{starts_in}
-use Rattle.sound_matching.specs.Match.{first, has_block}
+use Rattle.sound_matching.specs.Match.{has_block}
 use Rattle.sound_matching.proofs.Counts.{Matches}
-use Rattle.sound_matching.proofs.Matched.{Matched}
 use Rattle.sound.specs.Sound.{sound}
-use Rattle.sound_facts.proofs.Sound.{Sizes, Queue, Tiled, Sound}
+use Rattle.sound_facts.proofs.Sound.{Queue, Sound}
 use Rattle.sound_facts.proofs.View.{view}
 use Rattle.sound_facts.proofs.Same.{within}
-use Rattle.calls.proofs.Found.{Found, channel_found}
+use Rattle.calls.proofs.Found.{channel_found}
 use Rattle.queues.specs.Ring.{Ring}
 use Rattle.channels.specs.Effects.{queue_of}
 
 -- the channel that a number names
 pub record Named (p : List ℕ) (n k : ℕ) : Type 0 where
-  pub finds : channel_at p n ≡ At k
+  pub finds : channel_at p n ≡ Some k
   pub lives : live p Channels n ≡ true
   pub place : position n ≡ k
   pub below : k < positions Channels
@@ -41,7 +38,7 @@ pub record Named (p : List ℕ) (n k : ℕ) : Type 0 where
 pub live_below : (p : List ℕ) (n : ℕ) → live p Channels n ≡ true → position n < positions Channels
 live_below p n h = used_below p Channels (position n) (live_is p Channels n h).used
 
-pub channel_named : (p : List ℕ) (n k : ℕ) → channel_at p n ≡ At k → Named p n k
+pub channel_named : (p : List ℕ) (n k : ℕ) → channel_at p n ≡ Some k → Named p n k
 channel_named p n k h = let f = channel_found p n k h in record { finds = h; lives = f.lives; place = f.place; below = f.within }
 
 -- the queue at i is that of the channel at position k

@@ -10,10 +10,11 @@ ghost use Rattle.calls.specs.Registers.{A0};
 ghost use Rattle.sound.specs.Sound.{sound};
 ghost use Rattle.calls.specs.Outcome.{Meets};
 ghost use Rattle.calls.specs.Call.{outcome};
+ghost use Rattle.picture.specs.Answers.{answer_key};
 ghost use Rattle.channels.specs.Effects.{queue_of, forgotten, closed, immediate};
 ghost use Rattle.channels.specs.Calls.{close_channel, pending, fetch, send};
 
-use picture::{Area, ChannelFound, ChannelNumber, Table};
+use picture::{Area, ChannelNumber, Refusal, Table};
 use words::{put, word};
 
 // D3's low word, a timeout, is 0.
@@ -24,10 +25,10 @@ pub fn is_immediate(d: &[u32]) -> bool
 }
 
 // The position of the channel that A0 names, by its whole number.
-pub fn channel_named(p: &[u32], d: &[u32]) -> ChannelFound
+pub fn channel_named(p: &[u32], d: &[u32]) -> Option<usize>
     ensures { result ≡ channel_at p.now (A0 d.now) }
 {
-    picture::channel_at(p, ChannelNumber(word(d, calls::A0)))
+    picture::entry_at(p, ChannelNumber(word(d, calls::A0)))
 }
 
 // The queue of the channel at position k: its block.
@@ -62,68 +63,68 @@ pub fn remove_channel(p: &mut [u32], k: usize)
 }
 
 // Trap 2 $2: closes a channel.
-pub fn close_channel(p: &mut [u32], d: &mut [u32]) -> i32
+pub fn close_channel(p: &mut [u32], d: &mut [u32]) -> Result<(), Refusal>
     requires { sound p.old ≡ true }
-    ensures { Meets (outcome close_channel p.old d.old) result p.new d.new }
+    ensures { Meets (outcome close_channel p.old d.old) (answer_key result) p.new d.new }
 {
-    let ChannelFound::At(k) = channel_named(p, d) else {
-        return picture::CHANNEL_NOT_OPEN;
+    let Some(k) = channel_named(p, d) else {
+        return Err(Refusal::ChannelNotOpen);
     };
     remove_channel(p, k);
-    picture::DONE
+    Ok(())
 }
 
 // Trap 3 $0: asks whether a byte waits.
-pub fn pending(p: &mut [u32], d: &mut [u32]) -> i32
-    ensures { Meets (outcome pending p.old d.old) result p.new d.new }
+pub fn pending(p: &mut [u32], d: &mut [u32]) -> Result<(), Refusal>
+    ensures { Meets (outcome pending p.old d.old) (answer_key result) p.new d.new }
 {
-    let ChannelFound::At(k) = channel_named(p, d) else {
-        return picture::CHANNEL_NOT_OPEN;
+    let Some(k) = channel_named(p, d) else {
+        return Err(Refusal::ChannelNotOpen);
     };
     if !is_immediate(d) {
-        return picture::BAD_PARAMETER;
+        return Err(Refusal::BadParameter);
     }
     if !queues::is_waiting(p, queue_at(p, k)) {
-        return picture::NOT_COMPLETE;
+        return Err(Refusal::NotComplete);
     }
-    picture::DONE
+    Ok(())
 }
 
 // Trap 3 $1: takes the oldest byte into D1.
-pub fn fetch(p: &mut [u32], d: &mut [u32]) -> i32
+pub fn fetch(p: &mut [u32], d: &mut [u32]) -> Result<(), Refusal>
     requires { sound p.old ≡ true }
-    ensures { Meets (outcome fetch p.old d.old) result p.new d.new }
+    ensures { Meets (outcome fetch p.old d.old) (answer_key result) p.new d.new }
 {
-    let ChannelFound::At(k) = channel_named(p, d) else {
-        return picture::CHANNEL_NOT_OPEN;
+    let Some(k) = channel_named(p, d) else {
+        return Err(Refusal::ChannelNotOpen);
     };
     if !is_immediate(d) {
-        return picture::BAD_PARAMETER;
+        return Err(Refusal::BadParameter);
     }
     let i = queue_at(p, k);
     if !queues::is_waiting(p, i) {
-        return picture::NOT_COMPLETE;
+        return Err(Refusal::NotComplete);
     }
     put(d, calls::D1, queues::oldest_of(p, i));
     queues::take_oldest(p, i);
-    picture::DONE
+    Ok(())
 }
 
 // Trap 3 $5: writes D1's low byte behind the newest.
-pub fn send(p: &mut [u32], d: &mut [u32]) -> i32
+pub fn send(p: &mut [u32], d: &mut [u32]) -> Result<(), Refusal>
     requires { sound p.old ≡ true }
-    ensures { Meets (outcome send p.old d.old) result p.new d.new }
+    ensures { Meets (outcome send p.old d.old) (answer_key result) p.new d.new }
 {
-    let ChannelFound::At(k) = channel_named(p, d) else {
-        return picture::CHANNEL_NOT_OPEN;
+    let Some(k) = channel_named(p, d) else {
+        return Err(Refusal::ChannelNotOpen);
     };
     if !is_immediate(d) {
-        return picture::BAD_PARAMETER;
+        return Err(Refusal::BadParameter);
     }
     let i = queue_at(p, k);
     if queues::is_full(p, i) {
-        return picture::NOT_COMPLETE;
+        return Err(Refusal::NotComplete);
     }
     queues::add_newest(p, i, word(d, calls::D1) % 256);
-    picture::DONE
+    Ok(())
 }

@@ -11,6 +11,7 @@ use picture::Table;
 use timeouts::Timeout;
 
 // Answers the job's number and its record's offset.
+#[tactic(auto, unfolding(crate::specs::Effects::naming))]
 pub fn name_job(d: &mut [u32], n: u32, k: usize)
     requires { k < positions Jobs }
     ensures { d.new ≡ naming n k d.old }
@@ -20,18 +21,14 @@ pub fn name_job(d: &mut [u32], n: u32, k: usize)
 }
 
 // The timeout suspends a job: 1 to 32,767 frames, or without end.
-pub fn is_suspension(t: Timeout) -> bool
+pub fn is_suspension(t: Option<Timeout>) -> bool
     ensures { result ≡ suspends t }
 {
-    match t {
-        Timeout::Zero => false,
-        Timeout::Frames(_) => true,
-        Timeout::Endless => true,
-        Timeout::Bad => false,
-    }
+    matches!(t, Some(Timeout::Frames(_) | Timeout::Endless))
 }
 
 // Suspends the job at a position with a timeout: it waits for nobody, and has neither turns nor a key due.
+#[tactic(auto, unfolding(crate::specs::Effects::suspended))]
 pub fn put_suspension(p: &mut [u32], position: usize, timeout: i32)
     requires { position < positions Jobs }
     ensures { p.new ≡ suspended p.old position timeout }
@@ -43,6 +40,7 @@ pub fn put_suspension(p: &mut [u32], position: usize, timeout: i32)
 }
 
 // Ends the suspension of the job at position k; a job that isn't suspended stays as it is.
+#[tactic(auto, unfolding(crate::specs::Effects::released))]
 pub fn put_release(p: &mut [u32], k: usize)
     requires { k < positions Jobs }
     ensures { p.new ≡ released p.old k }
@@ -56,6 +54,7 @@ pub fn put_release(p: &mut [u32], k: usize)
 }
 
 // Gives the job at position k a priority, and no turns due.
+#[tactic(auto, unfolding(crate::specs::Effects::prioritized))]
 pub fn put_priority(p: &mut [u32], k: usize, priority: u32)
     requires { k < positions Jobs }
     ensures { p.new ≡ prioritized p.old k priority }
@@ -65,31 +64,26 @@ pub fn put_priority(p: &mut [u32], k: usize, priority: u32)
 }
 
 // The timeout of an activation is good: 0, or without end for a job other than job 0.
-pub fn is_wait_good(t: Timeout, n: u32) -> bool
+pub fn is_wait_good(t: Option<Timeout>, n: u32) -> bool
     ensures { result ≡ may_wait t n }
 {
     match t {
-        Timeout::Zero => true,
-        Timeout::Frames(_) => false,
-        Timeout::Endless => n != 0,
-        Timeout::Bad => false,
+        Some(Timeout::Zero) => true,
+        Some(Timeout::Endless) => n != 0,
+        _ => false,
     }
 }
 
 // The timeout is without end.
-pub fn is_endless(t: Timeout) -> bool
+pub fn is_endless(t: Option<Timeout>) -> bool
     ensures { result ≡ endless t }
 {
-    match t {
-        Timeout::Zero => false,
-        Timeout::Frames(_) => false,
-        Timeout::Endless => true,
-        Timeout::Bad => false,
-    }
+    matches!(t, Some(Timeout::Endless))
 }
 
 // Where the timeout is without end, the caller at position c waits for the job with number n.
-pub fn put_wait(p: &mut [u32], t: Timeout, c: usize, n: u32)
+#[tactic(auto, unfolding(crate::specs::Effects::waiting))]
+pub fn put_wait(p: &mut [u32], t: Option<Timeout>, c: usize, n: u32)
     requires { c < tag_weight }
     ensures { p.new ≡ waiting p.old t c n }
 {

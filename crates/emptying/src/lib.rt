@@ -14,6 +14,7 @@ use picture::{CHANNELS, JOBS, Table, field_of, is_used};
 use words::clear;
 
 // The job at position k is outside the set and waits for one of it.
+#[tactic(auto, unfolding(crate::specs::Taken::waits))]
 fn is_waiting(p: &[u32], set: u64, k: usize) -> bool
     requires { k < positions Jobs }
     ensures { result ≡ waits p.now set k }
@@ -23,6 +24,7 @@ fn is_waiting(p: &[u32], set: u64, k: usize) -> bool
 }
 
 // The job at position k is woken with the key if it waits for one of the set.
+#[tactic(auto, unfolding(crate::specs::Taken::woken))]
 fn wake(p: &mut [u32], set: u64, key: u32, k: usize)
     requires { k < positions Jobs }
     ensures { p.new ≡ woken set key p.old k }
@@ -35,6 +37,7 @@ fn wake(p: &mut [u32], set: u64, key: u32, k: usize)
 }
 
 // Each job outside the set that waits for one of it is woken with the key.
+#[tactic(auto, unfolding(crate::specs::Each::each))]
 fn wake_all(p: &mut [u32], set: u64, key: u32)
     ensures { p.new ≡ each (woken set key) (positions Jobs) p.old }
 {
@@ -44,6 +47,7 @@ fn wake_all(p: &mut [u32], set: u64, key: u32)
 }
 
 // The record of position k is zero if k is in the set.
+#[tactic(auto, unfolding(crate::specs::Taken::blanked))]
 fn blank(p: &mut [u32], t: Table, set: u64, k: usize)
     requires { k < positions t }
     ensures { p.new ≡ blanked t set p.old k }
@@ -55,6 +59,7 @@ fn blank(p: &mut [u32], t: Table, set: u64, k: usize)
 }
 
 // The table is without the entries of the set.
+#[tactic(auto, using(crate::proofs::Steps::length_blanked), unfolding(crate::specs::Taken::emptied, crate::specs::Each::each))]
 fn empty_table(p: &mut [u32], t: Table, set: u64)
     requires { heap_base ≤ length p.old }
     ensures { p.new ≡ emptied p.old t set }
@@ -67,6 +72,7 @@ fn empty_table(p: &mut [u32], t: Table, set: u64)
 }
 
 // The channel at position k is owned by a job of the set.
+#[tactic(auto, unfolding(crate::specs::Taken::channel_goes))]
 fn is_channel_going(p: &[u32], set: u64, k: usize) -> bool
     requires { k < positions Channels }
     ensures { result ≡ channel_goes p.now set k }
@@ -75,18 +81,15 @@ fn is_channel_going(p: &[u32], set: u64, k: usize) -> bool
 }
 
 // The channels that jobs of the set own.
+#[tactic(auto, unfolding(crate::specs::Taken::channels_of))]
 pub fn channels_of(p: &[u32], set: u64) -> u64
     ensures { result ≡ channels_of p.now set }
 {
-    let mut channels: u64 = 0;
-    for k in 0..CHANNELS {
-        let going = is_channel_going(p, set, k);
-        channels = masks::with_passing(channels, k, going);
-    }
-    channels
+    masks::positions_passing(CHANNELS, |k| is_channel_going(p, set, k))
 }
 
 // The tables are without the jobs of the set and without those channels, waiters are woken with the key, nobody is current.
+#[tactic(auto, unfolding(crate::specs::Taken::taken))]
 pub fn take_entries(p: &mut [u32], set: u64, channels: u64, key: u32)
     requires { heap_base ≤ length p.old }
     ensures { p.new ≡ taken p.old set channels key }

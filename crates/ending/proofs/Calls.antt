@@ -9,7 +9,7 @@ use Rattle.picture.specs.Layout.{greatest_size, upto}
 use Rattle.picture.specs.Numbers.{job_at}
 use Rattle.picture.specs.Keys.{not_complete, invalid_job, bad_parameter}
 use Rattle.picture.specs.declared.Area.TheVariants.{Heap, Transient}
-use Rattle.picture.specs.declared.JobFound.TheVariants.{At, Dead}
+use Rattle.std.proofs.Common.{Some, None}
 use Rattle.sound.specs.Sound.{sound}
 use Rattle.sound_facts.proofs.View.{view}
 use Rattle.calls.specs.Outcome.{refuse, succeed}
@@ -24,15 +24,15 @@ pub areas_within : (p : List ℕ) → sound p ≡ true → (upto p Heap ≤ grea
 areas_within p s = let z = (view p s).sizes in let l = z.long in let m = z.most in let h = z.heap_most in (omega arith, omega arith)
 
 module _ (p d : List ℕ) where
-  pub remove_no_job : job_at p (meant p (D1 d)) ≡ Dead → outcome remove p d ≡ refuse invalid_job p d
+  pub remove_no_job : job_at p (meant p (D1 d)) ≡ None → outcome remove p d ≡ refuse invalid_job p d
   unfolding remove removal outcome
   remove_no_job a = rw a
 
-  pub force_remove_no_job : job_at p (meant p (D1 d)) ≡ Dead → outcome force_remove p d ≡ refuse invalid_job p d
+  pub force_remove_no_job : job_at p (meant p (D1 d)) ≡ None → outcome force_remove p d ≡ refuse invalid_job p d
   unfolding force_remove removal outcome
   force_remove_no_job a = rw a
 
-  module _ (t : ℕ) (a : job_at p (meant p (D1 d)) ≡ At t) where
+  module _ (t : ℕ) (a : job_at p (meant p (D1 d)) ≡ Some t) where
     pub remove_job_0 : t ≡ 0 → outcome remove p d ≡ refuse bad_parameter p d
     unfolding remove removal outcome
     remove_job_0 z = rw (a, eq-eqb t 0 z)

@@ -8,13 +8,14 @@ ghost use Rattle.picture.specs.declared.Table.TheVariants.{Jobs};
 ghost use Rattle.sound.specs.Sound.{sound};
 ghost use Rattle.calls.specs.Outcome.{Meets};
 ghost use Rattle.calls.specs.Call.{outcome};
+ghost use Rattle.picture.specs.Answers.{answer_key};
 ghost use Rattle.ending.specs.Ended.{returned, ended};
 ghost use Rattle.ending.specs.Remove.{inactive, remove, force_remove};
 
 use calls::number_meant;
 use emptying::{channels_of, take_entries};
 use freeing::sweep;
-use picture::{Area, JOBS, JobFound, Table, field_of, job_at};
+use picture::{Area, JOBS, Refusal, Table, entry_at, field_of};
 use tree::tree_of;
 use words::{clear, word};
 
@@ -57,36 +58,36 @@ pub fn end_tree(p: &mut [u32], t: usize, key: u32)
 }
 
 // Trap 1 $4: the job that D1 means and all its descendants go, if none of them is active.
-pub fn remove(p: &mut [u32], d: &mut [u32]) -> i32
+pub fn remove(p: &mut [u32], d: &mut [u32]) -> Result<(), Refusal>
     requires { sound p.old ≡ true }
-    ensures { Meets (outcome remove p.old d.old) result p.new d.new }
+    ensures { Meets (outcome remove p.old d.old) (answer_key result) p.new d.new }
 {
-    let JobFound::At(t) = job_at(p, number_meant(p, word(d, calls::D1))) else {
-        return picture::INVALID_JOB;
+    let Some(t) = entry_at(p, number_meant(p, word(d, calls::D1))) else {
+        return Err(Refusal::InvalidJob);
     };
     if t == 0 {
-        return picture::BAD_PARAMETER;
+        return Err(Refusal::BadParameter);
     }
     if !is_inactive(p, tree_of(p, t)) {
-        return picture::NOT_COMPLETE;
+        return Err(Refusal::NotComplete);
     }
     end_tree(p, t, word(d, calls::D3));
     clear(d, calls::D1, calls::REGISTERS);
-    picture::DONE
+    Ok(())
 }
 
 // Trap 1 $5: the job that D1 means and all its descendants go.
-pub fn force_remove(p: &mut [u32], d: &mut [u32]) -> i32
+pub fn force_remove(p: &mut [u32], d: &mut [u32]) -> Result<(), Refusal>
     requires { sound p.old ≡ true }
-    ensures { Meets (outcome force_remove p.old d.old) result p.new d.new }
+    ensures { Meets (outcome force_remove p.old d.old) (answer_key result) p.new d.new }
 {
-    let JobFound::At(t) = job_at(p, number_meant(p, word(d, calls::D1))) else {
-        return picture::INVALID_JOB;
+    let Some(t) = entry_at(p, number_meant(p, word(d, calls::D1))) else {
+        return Err(Refusal::InvalidJob);
     };
     if t == 0 {
-        return picture::BAD_PARAMETER;
+        return Err(Refusal::BadParameter);
     }
     end_tree(p, t, word(d, calls::D3));
     clear(d, calls::D1, calls::REGISTERS);
-    picture::DONE
+    Ok(())
 }

@@ -1,11 +1,10 @@
 -- Document 01 (rules 110 to 112): "Error text: two texts are lent, the system's (21 strings for keys -1 to -21) and the driver's."
-use Rattle.std.specs.Prelude.{◌≡◌, Bool, cond, List, ℕ, zero, suc, ◌+◌, ◌*◌, ◌<◌, ◌≤◌, leb, ltb, ℤ, pos, negsuc, length, get_or, take, drop}
+use Rattle.std.specs.Prelude.{◌≡◌, Bool, cond, List, ℕ, zero, suc, ◌+◌, ◌*◌, leb, ltb, ℤ, pos, negsuc, length, get_or, take, drop, Option, Some, None, option_map, option_and_then}
 use Rattle.std.specs.Borrow.{Bor}
 use Rattle.picture.specs.Keys.{done, not_found}
-use Rattle.errors.specs.declared.Place.{Place}
-use Rattle.errors.specs.declared.Place.TheVariants.{At, Cut}
+use Rattle.errors.specs.declared.Part.{Part}
 use Rattle.errors.specs.declared.Spot.{Spot}
-use Rattle.errors.specs.declared.Spot.TheVariants.{System, Driver, Nowhere}
+use Rattle.errors.specs.declared.Spot.TheVariants.{System, Driver}
 
 -- rule 110: "A string is a length word, high byte first, and its characters; strings follow without padding"
 abbrev pub length_word : List ℕ → ℕ → ℕ
@@ -15,36 +14,27 @@ length_word s at = get_or s at 0 * 256 + get_or s (at + 1) 0
 abbrev pub whole_at : List ℕ → ℕ → Bool
 whole_at s at = leb (at + 2 + length_word s at) (length s)
 
-abbrev pub string_at : List ℕ → ℕ → Place
-string_at s at = cond (whole_at s at) (At (at + 2) (length_word s at)) Cut
+abbrev pub string_at : List ℕ → ℕ → Option Part
+string_at s at = cond (whole_at s at) (Some (record { start = at + 2; count = length_word s at })) None
 
--- past a string, or the text's length where it is cut: no string stands there
-abbrev pub past : Place → ℕ → ℕ
-past (At start count) n = start + count
-past Cut n = n
+-- past a string
+abbrev pub past : Part → ℕ
+past part = part.start + part.count
 
--- where the length word of string n stands, counted from the one at `at`
-abbrev pub nth_at : List ℕ → ℕ → ℕ → ℕ
-nth_at s zero at = at
-nth_at s (suc n) at = nth_at s n (past (string_at s at) (length s))
-
-abbrev pub in_system : Place → Spot
-in_system (At start count) = System start count
-in_system Cut = Nowhere
-
-abbrev pub in_driver : Place → Spot
-in_driver (At start count) = Driver start count
-in_driver Cut = Nowhere
+-- where the length word of string n stands; nowhere where a string before it is cut
+abbrev pub nth_at : List ℕ → ℕ → Option ℕ
+nth_at s zero = Some 0
+nth_at s (suc n) = option_map past (option_and_then (string_at s) (nth_at s n))
 
 -- rule 111: "A negative key picks a system string by order; a positive key is the offset of a length word in the driver's text."
 -- rule 112: "Cut short, key below -21, or key 0": nowhere
 abbrev pub system_strings : ℕ
 system_strings = 21
 
-abbrev pub spot_of : ℤ → List ℕ → List ℕ → Spot
-spot_of (pos zero) system driver = Nowhere
-spot_of (pos (suc k)) system driver = in_driver (string_at driver (suc k))
-spot_of (negsuc n) system driver = cond (ltb n system_strings) (in_system (string_at system (nth_at system n 0))) Nowhere
+abbrev pub spot_of : ℤ → List ℕ → List ℕ → Option Spot
+spot_of (pos zero) system driver = None
+spot_of (pos (suc k)) system driver = option_map Driver (string_at driver (suc k))
+spot_of (negsuc n) system driver = cond (ltb n system_strings) (option_map System (option_and_then (string_at system) (nth_at system n))) None
 
 -- r is the part of the text t from `at`, `count` bytes long: the same bytes, and in the same place
 pub record Lies (t : Bor (List ℕ)) (at count : ℕ) (r : Bor (List ℕ)) : Type 0 where
@@ -53,16 +43,15 @@ pub record Lies (t : Bor (List ℕ)) (at count : ℕ) (r : Bor (List ℕ)) : Typ
   pub place : r.ref_ptr.1 ≡ t.ref_ptr.1 + at
 
 -- rules 111 and 112: "The answer is that part of the lent text itself": or "the empty part at the start of the system's text"
-abbrev pub Answer : Spot → Bor (List ℕ) → Bor (List ℕ) → Bor (List ℕ) → Type 0
-Answer (System start count) system driver r = Lies system start count r
-Answer (Driver start count) system driver r = Lies driver start count r
-Answer Nowhere system driver r = Lies system 0 0 r
+abbrev pub Answer : Option Spot → Bor (List ℕ) → Bor (List ℕ) → Bor (List ℕ) → Type 0
+Answer (Some (System part)) system driver r = Lies system part.start part.count r
+Answer (Some (Driver part)) system driver r = Lies driver part.start part.count r
+Answer None system driver r = Lies system 0 0 r
 
 -- rules 111 and 112: "the characters alone, with key 0"; nowhere: -7
-abbrev pub spot_key : Spot → ℤ
-spot_key (System start count) = done
-spot_key (Driver start count) = done
-spot_key Nowhere = not_found
+abbrev pub spot_key : Option Spot → ℤ
+spot_key (Some spot) = done
+spot_key None = not_found
 
 unfoldable pub error_key : ℤ → List ℕ → List ℕ → ℤ
 error_key key system driver = spot_key (spot_of key system driver)

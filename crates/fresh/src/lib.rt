@@ -3,9 +3,10 @@
 
 ghost use Rattle.std.specs.Prelude.{◌≡◌, ◌+◌, ◌≤◌, ◌<◌, length};
 ghost use Rattle.picture.specs.Layout.{heap_base};
+ghost use Rattle.picture.specs.Answers.{answer_key};
 ghost use Rattle.fresh.specs.Fresh.{fresh, fresh_key, fresh_picture};
 
-use picture::Table;
+use picture::{Refusal, Table};
 use words::put;
 
 // Job 0 starts at this priority.
@@ -28,18 +29,18 @@ fn write_fresh(p: &mut [u32], n: u32, h: u32)
 }
 
 // Makes the lent picture fresh, or refuses bad sizes.
-pub fn make_fresh(p: &mut [u32], n: u32, h: u32) -> i32
-    ensures { (result ≡ fresh_key p.old n h) × (p.new ≡ fresh_picture p.old n h) }
+pub fn make_fresh(p: &mut [u32], n: u32, h: u32) -> Result<(), Refusal>
+    ensures { (answer_key result ≡ fresh_key p.old n h) × (p.new ≡ fresh_picture p.old n h) }
 {
     if p.len() != n as usize {
-        return picture::OUT_OF_RANGE;
+        return Err(Refusal::OutOfRange);
     }
     if !sound_whole::size_within(n as usize) {
-        return picture::OUT_OF_RANGE;
+        return Err(Refusal::OutOfRange);
     }
     if !sound_whole::heap_within(n as usize, h as usize) {
-        return picture::OUT_OF_RANGE;
+        return Err(Refusal::OutOfRange);
     }
     write_fresh(p, n, h);
-    picture::DONE
+    Ok(())
 }

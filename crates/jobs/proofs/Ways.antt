@@ -8,8 +8,9 @@ use borrow.Author.Tests.{le-leb, lt-leb, not-true, not-false}
 use Rattle.picture.specs.Keys.{done, not_complete, invalid_job, bad_parameter}
 use Rattle.picture.specs.Records.{active}
 use Rattle.picture.specs.Numbers.{position, job_at}
-use Rattle.picture.specs.declared.JobFound.TheVariants.{Dead}
+use Rattle.std.proofs.Common.{None}
 use Rattle.picture.specs.Layout.{greatest_priority}
+use Rattle.std.proofs.Common.{Option}
 use Rattle.timeouts.specs.Timeout.{timeout_in, value}
 use Rattle.timeouts.specs.declared.Timeout.{Timeout}
 use Rattle.calls.specs.Found.{job_position}
@@ -27,7 +28,7 @@ meets_done : (o : Outcome) (p d q e : List ℕ) → o ≡ succeed p d → q ≡ 
 meets_done o p d q e s a b = record { answers = sym (ap (λ (x : Outcome). x.key) s); leaves = a ∙ sym (ap (λ (x : Outcome). x.picture) s); gives = b ∙ sym (ap (λ (x : Outcome). x.registers) s) }
 
 module _ (p d : List ℕ) where
-  module _ (h : job_at p (job p d) ≡ Dead) where
+  module _ (h : job_at p (job p d) ≡ None) where
     pub suspend_lost : Meets (outcome suspend p d) invalid_job p d
     unfolding suspend outcome
     suspend_lost = meets_refuse _ invalid_job p d (rw h)
@@ -49,7 +50,7 @@ module _ (p d : List ℕ) where
     names = rw (F.means, F.placed)
 
     -- $8
-    module _ (t : Timeout) (s : Bool) (a : ℕ) (times : t ≡ timeout_in (D3 d)) (tests : s ≡ suspends t) (flags : a ≡ A1 d) where
+    module _ (t : Option Timeout) (s : Bool) (a : ℕ) (times : t ≡ timeout_in (D3 d)) (tests : s ≡ suspends t) (flags : a ≡ A1 d) where
       suspend_test : s && eqb a 0 ≡ suspends (timeout_in (D3 d)) && eqb (A1 d) 0
       suspend_test = rw (tests, times, flags)
 
@@ -96,7 +97,7 @@ module _ (p d : List ℕ) where
         unfolding activate outcome
         activate_bad h = meets_refuse _ bad_parameter p d (rw (F.finds, sym acts ∙ idle, sym activity ∙ not-true _ h))
 
-        module _ (t : Timeout) (s : Bool) (times : t ≡ timeout_in (D3 d)) (tests : s ≡ may_wait t m) (good : not (leb 1 (w % 256) && leb (w % 256) greatest_priority) ≡ false) where
+        module _ (t : Option Timeout) (s : Bool) (times : t ≡ timeout_in (D3 d)) (tests : s ≡ may_wait t m) (good : not (leb 1 (w % 256) && leb (w % 256) greatest_priority) ≡ false) where
           activate_test : s ≡ may_wait (timeout_in (D3 d)) (job p d)
           activate_test = tests ∙ rw (times, F.means)
 

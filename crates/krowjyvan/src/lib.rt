@@ -12,10 +12,10 @@ ghost use Rattle.report_lines.specs.Report.{report_key, report_lines as reportLi
 ghost use Rattle.report_table.specs.Longwords.{line_longwords};
 ghost use Rattle.manager.specs.Door.{called};
 ghost use Rattle.manager.specs.Turn.{ticking, pick_picture, pick_answer, tick_key};
-ghost use Rattle.krowjyvan.specs.Part.{start_of, count_of};
+ghost use Rattle.krowjyvan.specs.Part.{part_of};
 ghost use Rattle.krowjyvan.specs.Lines.{lines_lent, lines_longwords};
 
-use errors::Spot;
+use errors::{Part, Spot};
 use report_lines::{Beginning, JobLine, begin, line_of};
 use report_table::longwords_of;
 use words::put;
@@ -71,33 +71,21 @@ pub fn krowjyvan_error_text(
     start: &mut usize,
     count: &mut usize,
 ) -> i32
-    ensures { (result ≡ error_key key system.now driver.now) × ((start.new ≡ start_of (spot_of key system.now driver.now)) × (count.new ≡ count_of (spot_of key system.now driver.now))) }
+    ensures { (result ≡ error_key key system.now driver.now) × ((start.new ≡ (part_of (spot_of key system.now driver.now)).start) × (count.new ≡ (part_of (spot_of key system.now driver.now)).count)) }
 {
-    let spot = errors::spot_of(key, system, driver);
-    *start = start_in(spot);
-    *count = count_in(spot);
+    let part = part_in(errors::spot_of(key, system, driver));
+    *start = part.start;
+    *count = part.count;
     manager::error_key(key, system, driver)
 }
 
-// Where a part starts in its text.
-fn start_in(spot: Spot) -> usize
-    ensures { result ≡ start_of spot }
+// The part of its text at a spot; nowhere is the empty part at the start.
+fn part_in(spot: Option<Spot>) -> Part
+    ensures { result ≡ part_of spot }
 {
     match spot {
-        Spot::System(start, _) => start,
-        Spot::Driver(start, _) => start,
-        Spot::Nowhere => 0,
-    }
-}
-
-// How many characters it has.
-fn count_in(spot: Spot) -> usize
-    ensures { result ≡ count_of spot }
-{
-    match spot {
-        Spot::System(_, count) => count,
-        Spot::Driver(_, count) => count,
-        Spot::Nowhere => 0,
+        Some(Spot::System(part) | Spot::Driver(part)) => part,
+        None => Part { start: 0, count: 0 },
     }
 }
 

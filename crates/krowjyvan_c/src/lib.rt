@@ -9,7 +9,7 @@ ghost use Rattle.errors.specs.Text.{spot_of, error_key};
 ghost use Rattle.report_lines.specs.Report.{report_key, report_lines as reportLines};
 ghost use Rattle.manager.specs.Door.{called};
 ghost use Rattle.manager.specs.Turn.{ticking, pick_picture, pick_answer, tick_key};
-ghost use Rattle.krowjyvan.specs.Part.{start_of, count_of};
+ghost use Rattle.krowjyvan.specs.Part.{part_of};
 ghost use Rattle.krowjyvan.specs.Lines.{lines_lent, lines_longwords};
 
 // krowjyvan::krowjyvan_fresh.
@@ -66,7 +66,7 @@ pub extern "C" fn krowjyvan_error_text(
     start: &mut usize,
     count: &mut usize,
 ) -> i32
-    ensures { (result ≡ error_key key system.now driver.now) × ((start.new ≡ start_of (spot_of key system.now driver.now)) × (count.new ≡ count_of (spot_of key system.now driver.now))) }
+    ensures { (result ≡ error_key key system.now driver.now) × ((start.new ≡ (part_of (spot_of key system.now driver.now)).start) × (count.new ≡ (part_of (spot_of key system.now driver.now)).count)) }
 {
     krowjyvan::krowjyvan_error_text(key, system, driver, start, count)
 }

@@ -9,6 +9,9 @@ use lib.IntN.{ℤ, pos, negsuc}
 use lib.ListN.{length}
 use lib.Dec.{eqb, ltb}
 use borrow.Author.Tests.{eqb-true, eq-eqb, leb-true, le-leb, ltb-true, lt-ltb}
+use Rattle.std.specs.Option.{is_some}
+use Rattle.std.proofs.Common.{Option, Some, None, option_map, option_and_then}
+use Rattle.std.proofs.lemmas.Option.{none-some, same_Some}
 use Rattle.words.proofs.Tests.{both, false_true}
 use Rattle.picture.specs.Keys.{done, out_of_range, not_found, not_sound}
 use Rattle.picture.specs.Layout.{nobody, least_size, greatest_size, heap_base, positions}
@@ -18,9 +21,9 @@ use Rattle.sound.specs.Sound.{sound}
 use Rattle.sound_facts.proofs.View.{view}
 use Rattle.calls.proofs.Call.{keys_differ}
 use Rattle.fresh.specs.Fresh.{fresh_good, fresh_key}
-use Rattle.errors.specs.Text.{length_word, whole_at, string_at, past, nth_at, in_system, in_driver, spot_key, error_key}
-use Rattle.errors.specs.declared.Place.TheVariants.{At, Cut}
-use Rattle.errors.specs.declared.Spot.TheVariants.{Nowhere}
+use Rattle.errors.specs.Text.{length_word, whole_at, string_at, past, nth_at, spot_key, error_key}
+use Rattle.errors.specs.declared.Part.{Part}
+use Rattle.errors.specs.declared.Spot.TheVariants.{System, Driver}
 use Rattle.turns.specs.Pick.{chosen_job, picked_number, picked_key}
 use Rattle.law_picks.specs.Stretch.{Chosen}
 use Rattle.law_picks.proofs.Rule.{NobodyReady, chosen_is_who_the_rule_picks}
@@ -100,49 +103,55 @@ whole_says text at e = leb-true (at + 2 + length_word text at) (length text) e
 
 module _ (text : List ℕ) where
   -- strings one by one
-  nth_next : (n at : ℕ) → nth_at text (suc n) at ≡ past (string_at text (nth_at text n at)) (length text)
-  nth_next zero at = refl
-  nth_next (suc n) at = nth_next n (past (string_at text at) (length text))
-
-  past_whole : (at : ℕ) → whole_at text at ≡ true → past (string_at text at) (length text) ≡ at + 2 + length_word text at
-  past_whole at e = rw e
-
-  past_cut : (at : ℕ) → whole_at text at ≡ false → past (string_at text at) (length text) ≡ length text
-  past_cut at e = rw e
-
-  stands_at : (n at : ℕ) → StringStands text n at → nth_at text n 0 ≡ at
+  stands_at : (n at : ℕ) → StringStands text n at → nth_at text n ≡ Some at
   stands_at n at first = refl
-  stands_at n at (next {n = m} {at = b} S w) = nth_next m 0 ∙ ap (λ (x : ℕ). past (string_at text x) (length text)) (stands_at m b S) ∙ past_whole b (le-leb (b + 2 + length_word text b) (length text) w)
+  stands_at n at (next {n = m} {at = b} S w) = rw (stands_at m b S, le-leb (b + 2 + length_word text b) (length text) w)
 
-  at_stands : (n : ℕ) → whole_at text (nth_at text n 0) ≡ true → StringStands text n (nth_at text n 0)
-  at_stands zero e = first
-  at_stands (suc n) e = go (whole_at text (nth_at text n 0)) refl (λ z. at_stands n z)
+  at_stands : (n at : ℕ) → nth_at text n ≡ Some at → StringStands text n at
+  at_stands zero at e = rw (← same_Some 0 at e) first
+  at_stands (suc n) at e = go (nth_at text n) e (λ b. at_stands n b)
     where
-      go : (b : Bool) → whole_at text (nth_at text n 0) ≡ b → (whole_at text (nth_at text n 0) ≡ true → StringStands text n (nth_at text n 0)) → StringStands text (suc n) (nth_at text (suc n) 0)
-      go true w again = rw (nth_next n 0, past_whole (nth_at text n 0) w) (next (again w) (whole_says text (nth_at text n 0) w))
-      go false w again =
-          let z = nth_next n 0 ∙ past_cut (nth_at text n 0) w in
-          let x = whole_says text (nth_at text (suc n) 0) e in
-          absurd (omega arith)
+      past_it : (b : ℕ) (c : Bool) → whole_at text b ≡ c → option_map past (cond c (Some (record { start = b + 2; count = length_word text b })) None) ≡ Some at → StringStands text n b → StringStands text (suc n) at
+      past_it b true w f S = rw (← same_Some _ at f) (next S (whole_says text b w))
+      past_it b false w f S = absurd (none-some at f)
 
-system_key : (system driver : List ℕ) (n : ℕ) → error_key (negsuc n) system driver ≡ cond (ltb n 21 && whole_at system (nth_at system n 0)) done not_found
+      go : (q : Option ℕ) → option_map past (option_and_then (string_at text) q) ≡ Some at → ((b : ℕ) → q ≡ Some b → StringStands text n b) → StringStands text (suc n) at
+      go None f again = absurd (none-some at f)
+      go (Some b) f again = past_it b (whole_at text b) refl f (again b refl)
+
+  -- string n, where it stands
+  string_stands : (n : ℕ) → is_some (option_and_then (string_at text) (nth_at text n)) ≡ true → (at : ℕ) × StringStands text n at × Whole text at
+  string_stands n e = go (nth_at text n) refl e
+    where
+      go : (q : Option ℕ) → nth_at text n ≡ q → is_some (option_and_then (string_at text) q) ≡ true → (at : ℕ) × StringStands text n at × Whole text at
+      go None f g = absurd (false_true g)
+      go (Some at) f g = (at, at_stands n at f, whole_says text at (part_is_whole at g))
+        where
+          part_is_whole : (at : ℕ) → is_some (string_at text at) ≡ true → whole_at text at ≡ true
+          part_is_whole at g = by (whole_at text at) g
+            where
+              by : (b : Bool) → is_some {T = Part} (cond b (Some (record { start = at + 2; count = length_word text at })) None) ≡ true → b ≡ true
+              by true h = refl
+              by false h = absurd (false_true h)
+
+system_key : (system driver : List ℕ) (n : ℕ) → error_key (negsuc n) system driver ≡ cond (ltb n 21 && is_some (option_and_then (string_at system) (nth_at system n))) done not_found
 unfolding error_key
-system_key system driver n = go (ltb n 21) (whole_at system (nth_at system n 0))
+system_key system driver n = go (ltb n 21) (option_and_then (string_at system) (nth_at system n))
   where
-    go : (a b : Bool) → spot_key (cond a (in_system (cond b (At (nth_at system n 0 + 2) (length_word system (nth_at system n 0))) Cut)) Nowhere) ≡ cond (a && b) done not_found
-    go true true = refl
-    go true false = refl
-    go false b = refl
+    go : (a : Bool) (q : Option Part) → spot_key (cond a (option_map System q) None) ≡ cond (a && is_some q) done not_found
+    go true (Some part) = refl
+    go true None = refl
+    go false q = refl
 
 driver_key : (system driver : List ℕ) (n : ℕ) → error_key (pos (suc n)) system driver ≡ cond (whole_at driver (suc n)) done not_found
 unfolding error_key
 driver_key system driver n = go (whole_at driver (suc n))
   where
-    go : (b : Bool) → spot_key (in_driver (cond b (At (suc n + 2) (length_word driver (suc n))) Cut)) ≡ cond b done not_found
+    go : (b : Bool) → spot_key (option_map Driver (cond b (Some (record { start = suc n + 2; count = length_word driver (suc n) })) None)) ≡ cond b done not_found
     go true = refl
     go false = refl
 
-system_back : (system driver : List ℕ) (n : ℕ) → HasText system driver (negsuc n) → ltb n 21 && whole_at system (nth_at system n 0) ≡ true
+system_back : (system driver : List ℕ) (n : ℕ) → HasText system driver (negsuc n) → ltb n 21 && is_some (option_and_then (string_at system) (nth_at system n)) ≡ true
 system_back system driver n (system's {at = at} l S w) = rw (lt-ltb n 21 l, stands_at system n at S, le-leb (at + 2 + length_word system at) (length system) w)
 
 driver_back : (system driver : List ℕ) (n : ℕ) → HasText system driver (pos (suc n)) → whole_at driver (suc n) ≡ true
@@ -159,6 +168,9 @@ pub text_only_for_its_cause : TextOnlyForItsCause
 unfolding error_key
 text_only_for_its_cause (pos zero) system driver = text_by (pos 0) system driver false refl (λ z. absurd (false_true z)) (λ T. absurd (zero_has_none system driver (pos 0) T refl))
 text_only_for_its_cause (pos (suc n)) system driver = text_by (pos (suc n)) system driver (whole_at driver (suc n)) (driver_key system driver n) (λ z. driver's (whole_says driver (suc n) z)) (driver_back system driver n)
-text_only_for_its_cause (negsuc n) system driver = text_by (negsuc n) system driver (ltb n 21 && whole_at system (nth_at system n 0)) (system_key system driver n)
-    (λ z. let b = both (ltb n 21) (whole_at system (nth_at system n 0)) z in system's (ltb-true n 21 b.0) (at_stands system n b.1) (whole_says system (nth_at system n 0) b.1))
+text_only_for_its_cause (negsuc n) system driver = text_by (negsuc n) system driver (ltb n 21 && is_some (option_and_then (string_at system) (nth_at system n))) (system_key system driver n)
+    (λ z.
+    let b = both (ltb n 21) (is_some (option_and_then (string_at system) (nth_at system n))) z in
+    let w = string_stands system n b.1 in
+    system's (ltb-true n 21 b.0) w.1 w.2)
     (system_back system driver n)

@@ -19,13 +19,12 @@ use Rattle.words.proofs.Each.{any_some, some_any}
 use Rattle.picture.specs.Keys.{not_complete, invalid_job, out_of_memory, channel_not_open, bad_parameter}
 use Rattle.picture.specs.Layout.{positions, last_word, greatest_tag, greatest_priority, greatest_timeout}
 use Rattle.picture.specs.Records.{number, priority, used, active, members}
-use Rattle.picture.specs.Numbers.{position, live, job_at, channel_at, free_position}
+use Rattle.picture.specs.Numbers.{position, live, job_at, channel_at, free_position, entry_at}
 use Rattle.picture.specs.declared.Table.{Table}
 use Rattle.picture.specs.declared.Table.TheVariants.{Jobs, Channels}
 use Rattle.picture.specs.declared.Area.{Area}
 use Rattle.picture.specs.declared.Area.TheVariants.{Heap}
-use Rattle.picture.specs.declared.JobFound.TheVariants as job
-use Rattle.picture.specs.declared.ChannelFound.TheVariants as channel
+use Rattle.std.proofs.Common.{Some, None}
 use Rattle.picture.proofs.Numbers.{live_is, is_live}
 use Rattle.picture.proofs.Records.{used_is}
 use Rattle.masks.specs.Masks.{lowest_clear}
@@ -37,9 +36,10 @@ use Rattle.sound_facts.proofs.Sound.{Sound, Entries, entries_of}
 use Rattle.sound_facts.proofs.View.{view}
 use Rattle.calls.specs.Call.{Check}
 use Rattle.calls.specs.Found.{job_check, channel_check}
+use Rattle.std.proofs.Common.{Option, Some, None}
 use Rattle.timeouts.specs.Timeout.{timeout_of}
 use Rattle.timeouts.specs.declared.Timeout.{Timeout}
-use Rattle.timeouts.specs.declared.Timeout.TheVariants.{Zero, Frames, Endless, Bad}
+use Rattle.timeouts.specs.declared.Timeout.TheVariants.{Zero, Frames, Endless}
 use Rattle.effects.specs.Effects.{suspends, may_wait, activity_good, priority_good}
 use Rattle.entering.specs.Entry.{has_position, has_tag}
 use Rattle.rooms.specs.Room.{room_at, room_check, first_byte}
@@ -88,18 +88,18 @@ module _ (p d s : List ℕ) where
     live_names t n l = let L = live_is p t n l in record { at = position n; in_use = L.used; holds = L.names }
 
     pub tells_job : (n : ℕ) → Tells (W (not_live Jobs n)) (job_check (job_at p n)) invalid_job
-    unfolding job_at
+    unfolding entry_at
     tells_job n = go (live p Jobs n) refl
       where
-        go : (b : Bool) → live p Jobs n ≡ b → Tells (Names p Jobs n → ⊥) (job_check (cond b (job.At (position n)) job.Dead)) invalid_job
+        go : (b : Bool) → live p Jobs n ≡ b → Tells (Names p Jobs n → ⊥) (job_check (cond b (Some (position n)) None)) invalid_job
         go true e = record { fails = λ z. absurd (false_true (sym z)); passes = λ _ w. w (live_names Jobs n e) }
         go false e = record { fails = λ _. ((λ N. false_true (sym e ∙ names_live Jobs n N)), refl); passes = λ z. absurd (false_true z) }
 
     pub tells_channel : (n : ℕ) → Tells (W (not_live Channels n)) (channel_check (channel_at p n)) channel_not_open
-    unfolding channel_at
+    unfolding entry_at
     tells_channel n = go (live p Channels n) refl
       where
-        go : (b : Bool) → live p Channels n ≡ b → Tells (Names p Channels n → ⊥) (channel_check (cond b (channel.At (position n)) channel.Dead)) channel_not_open
+        go : (b : Bool) → live p Channels n ≡ b → Tells (Names p Channels n → ⊥) (channel_check (cond b (Some (position n)) None)) channel_not_open
         go true e = record { fails = λ z. absurd (false_true (sym z)); passes = λ _ w. w (live_names Channels n e) }
         go false e = record { fails = λ _. ((λ N. false_true (sym e ∙ names_live Channels n N)), refl); passes = λ z. absurd (false_true z) }
 
@@ -191,17 +191,17 @@ module _ (p d s : List ℕ) where
   tells_immediate = tells_by (W (timeout_not_zero (low_word (D3 d)))) (eqb (low_word (D3 d)) 0) bad_parameter (eqb-false (low_word (D3 d)) 0) (λ e w. w (eqb-true (low_word (D3 d)) 0 e))
 
 -- a timeout, by the low word that it comes from
-data Half (w : ℕ) : Timeout → Type 0 where
-  nought : w ≡ 0 → Half w Zero
-  frames : {z : ℤ} → 1 ≤ w → w ≤ greatest_timeout → Half w (Frames z)
-  endless : w ≡ 0xFFFF → Half w Endless
-  bad : greatest_timeout < w → w < 0xFFFF → Half w Bad
+data Half (w : ℕ) : Option Timeout → Type 0 where
+  nought : w ≡ 0 → Half w (Some Zero)
+  frames : {z : ℤ} → 1 ≤ w → w ≤ greatest_timeout → Half w (Some (Frames z))
+  endless : w ≡ 0xFFFF → Half w (Some Endless)
+  bad : greatest_timeout < w → w < 0xFFFF → Half w None
 
 half_above : (w : ℕ) → w < 32768 → Half w (timeout_of (pos w))
 unfolding timeout_of
 half_above w l = go (eqb w 0) refl
   where
-    go : (b : Bool) → eqb w 0 ≡ b → Half w (cond b Zero (cond false Endless (cond (leb 1 w && leb w greatest_timeout) (Frames (pos w)) Bad)))
+    go : (b : Bool) → eqb w 0 ≡ b → Half w (cond b (Some Zero) (cond false (Some Endless) (cond (leb 1 w && leb w greatest_timeout) (Some (Frames (pos w))) None)))
     go true e = nought (eqb-true w 0 e)
     go false e = let n = eqb-false w 0 e in let a : 1 ≤ w = omega arith in let b : w ≤ greatest_timeout = omega arith in rw (le-leb 1 w a, le-leb w greatest_timeout b) (frames a b)
 
@@ -209,7 +209,7 @@ half_below : (w k : ℕ) → w + k ≡ 65535 → k < 32768 → Half w (timeout_o
 unfolding timeout_of
 half_below w k z l = go (eqb k 0) refl
   where
-    go : (b : Bool) → eqb k 0 ≡ b → Half w (cond false Zero (cond b Endless (cond false (Frames (negsuc k)) Bad)))
+    go : (b : Bool) → eqb k 0 ≡ b → Half w (cond false (Some Zero) (cond b (Some Endless) (cond false (Some (Frames (negsuc k))) None)))
     go true e = let n = eqb-true k 0 e in endless (omega arith)
     go false e = let n = eqb-false k 0 e in bad (omega arith) (omega arith)
 
@@ -236,11 +236,11 @@ module _ (p d s : List ℕ) where
       good y true e = tells_by _ true bad_parameter (λ z. absurd (false_true (sym z))) (λ _ v. ⊎_elim (λ n. n y) (λ n. n (eqb-true a 0 e)) v)
       good y false e = tells_by _ false bad_parameter (λ _. inr (eqb-false a 0 e)) (λ z. absurd (false_true z))
 
-      go : (t : Timeout) → Half w t → (b : Bool) → eqb a 0 ≡ b → Tells (Wrong p d s (suspension_outside w a)) (suspends t && b, bad_parameter) bad_parameter
-      go Zero (nought e) b q = tells_by _ false bad_parameter (λ _. inl (no (inl e))) (λ z. absurd (false_true z))
-      go (Frames z) (frames x y) b q = good (inl (x, y)) b q
-      go Endless (endless e) b q = good (inr e) b q
-      go Bad (bad x y) b q = tells_by _ false bad_parameter (λ _. inl (no (inr (x, y)))) (λ z. absurd (false_true z))
+      go : (t : Option Timeout) → Half w t → (b : Bool) → eqb a 0 ≡ b → Tells (Wrong p d s (suspension_outside w a)) (suspends t && b, bad_parameter) bad_parameter
+      go (Some Zero) (nought e) b q = tells_by _ false bad_parameter (λ _. inl (no (inl e))) (λ z. absurd (false_true z))
+      go (Some (Frames z)) (frames x y) b q = good (inl (x, y)) b q
+      go (Some Endless) (endless e) b q = good (inr e) b q
+      go None (bad x y) b q = tells_by _ false bad_parameter (λ _. inl (no (inr (x, y)))) (λ z. absurd (false_true z))
 
   pub tells_activation : (w n : ℕ) → w < 65536 → Tells (Wrong p d s (activation_outside w n)) (may_wait (timeout_of (to_z w16 w)) n, bad_parameter) bad_parameter
   tells_activation w n l = go (timeout_of (to_z w16 w)) (half_is w l) (eqb n 0) refl
@@ -253,9 +253,9 @@ module _ (p d s : List ℕ) where
       not_zero a e (inl x) = omega arith
       not_zero a e (inr x) = x.1 e
 
-      go : (t : Timeout) → Half w t → (b : Bool) → eqb n 0 ≡ b → Tells (Wrong p d s (activation_outside w n)) (may_wait t n, bad_parameter) bad_parameter
-      go Zero (nought e) b q = tells_by _ true bad_parameter (λ z. absurd (false_true (sym z))) (λ _ v. v (inl e))
-      go (Frames z) (frames x y) b q = tells_by _ false bad_parameter (λ _. no x (omega arith)) (λ z. absurd (false_true z))
-      go Endless (endless e) true q = rw q (tells_by _ false bad_parameter (λ _. not_zero e (eqb-true n 0 q)) (λ z. absurd (false_true z)))
-      go Endless (endless e) false q = rw q (tells_by _ true bad_parameter (λ z. absurd (false_true (sym z))) (λ _ v. v (inr (e, eqb-false n 0 q))))
-      go Bad (bad x y) b q = tells_by _ false bad_parameter (λ _. no (omega arith) y) (λ z. absurd (false_true z))
+      go : (t : Option Timeout) → Half w t → (b : Bool) → eqb n 0 ≡ b → Tells (Wrong p d s (activation_outside w n)) (may_wait t n, bad_parameter) bad_parameter
+      go (Some Zero) (nought e) b q = tells_by _ true bad_parameter (λ z. absurd (false_true (sym z))) (λ _ v. v (inl e))
+      go (Some (Frames z)) (frames x y) b q = tells_by _ false bad_parameter (λ _. no x (omega arith)) (λ z. absurd (false_true z))
+      go (Some Endless) (endless e) true q = rw q (tells_by _ false bad_parameter (λ _. not_zero e (eqb-true n 0 q)) (λ z. absurd (false_true z)))
+      go (Some Endless) (endless e) false q = rw q (tells_by _ true bad_parameter (λ z. absurd (false_true (sym z))) (λ _ v. v (inr (e, eqb-false n 0 q))))
+      go None (bad x y) b q = tells_by _ false bad_parameter (λ _. no (omega arith) y) (λ z. absurd (false_true z))

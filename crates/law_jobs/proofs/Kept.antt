@@ -24,9 +24,9 @@ use Rattle.sound.specs.Sound.{sound}
 use Rattle.sound_facts.proofs.Sound.{Sizes, Current, Sound}
 use Rattle.sound_facts.proofs.View.{view, sound_again}
 use Rattle.sound_facts.proofs.Ages.{Ages}
+use Rattle.std.proofs.Common.{Option}
 use Rattle.timeouts.specs.Timeout.{timeout_in, timeout_of, low_half, value}
 use Rattle.timeouts.specs.declared.Timeout.{Timeout}
-use Rattle.timeouts.specs.declared.Timeout.TheVariants.{Zero, Frames, Endless, Bad}
 use Rattle.timeouts.proofs.Cases.{value_timely}
 use Rattle.calls.specs.Outcome.{Outcome}
 use Rattle.calls.specs.Call.{outcome}
@@ -169,7 +169,7 @@ module _ (p : List ℕ) (S : Sound p) (n v : ℕ) (lives : live p Jobs n ≡ tru
     waiting_steady : Steady p c3
     waiting_steady = steady_then p q c3 changed.steady (awaiting_written q (raised l) c c_used n).steady
 
-  module _ (t : Timeout) (l : v ≤ greatest_priority) where
+  module _ (t : Option Timeout) (l : v ≤ greatest_priority) where
     activated_sound : Sound (with_nobody (waiting q t c n))
     unfolding waiting
     activated_sound = go (endless t) S.current

@@ -21,6 +21,7 @@ use Rattle.picture.proofs.Records.{used_below}
 use Rattle.picture.proofs.Numbers.{Live, live_is}
 use Rattle.picture.specs.Layout.{without_end}
 use Rattle.picture.proofs.Timeout.{Timely, timely_fits, timely_endless, timeout_same, timeout_stored, ready_has}
+use Rattle.std.proofs.Common.{Option}
 use Rattle.timeouts.specs.Timeout.{timeout_of, timeout_in, low_half, value}
 use Rattle.timeouts.specs.declared.Timeout.{Timeout}
 use Rattle.timeouts.proofs.Cases.{value_timely, value_zero}
@@ -256,7 +257,7 @@ module _ (p : List ℕ) (S : Sound p) (m v : ℕ) (lives : live p Jobs m ≡ tru
       let z : without_end ≡ pos 0 = sym c_timeout ∙ ap (timeout c3) (sym e) ∙ nobody_timeout c3 j s.is_ready in
       false_true (ap non_neg z)
 
-  activated_quiet : (t : Timeout) → Stands n j g (with_nobody (waiting q t c m)) → Quiet j p (waiting q t c m)
+  activated_quiet : (t : Option Timeout) → Stands n j g (with_nobody (waiting q t c m)) → Quiet j p (waiting q t c m)
   unfolding waiting
   activated_quiet t = go (endless t)
     where

@@ -11,10 +11,9 @@ use Rattle.words.specs.Signed.{eq_z}
 use Rattle.words.proofs.Signed.{eq_z_true, eq_eq_z}
 use Rattle.words.proofs.Tests.{false_true}
 use Rattle.picture.specs.Keys.{done, invalid_job, buffer_overflow, not_sound}
-use Rattle.picture.specs.Numbers.{position, live, job_at}
+use Rattle.picture.specs.Numbers.{position, live, job_at, entry_at}
 use Rattle.picture.specs.declared.Table.TheVariants.{Jobs}
-use Rattle.picture.specs.declared.JobFound.{JobFound}
-use Rattle.picture.specs.declared.JobFound.TheVariants.{At, Dead}
+use Rattle.std.proofs.Common.{Option, Some, None}
 use Rattle.sound.specs.Sound.{sound}
 use Rattle.calls.specs.Found.{job_check, job_place}
 use Rattle.calls.proofs.Call.{keys_differ}
@@ -36,11 +35,11 @@ module _ (p : List ℕ) (top lent : ℕ) where
   enough = leb (size (tree p (position top))) lent
 
   key_by_tests : report_key p top lent ≡ cond (sound p) (cond (live p Jobs top) (cond enough done buffer_overflow) invalid_job) not_sound
-  unfolding report_key report_checks job_at
+  unfolding report_key report_checks entry_at
   key_by_tests = go (live p Jobs top)
     where
-      found : Bool → JobFound
-      found b = cond b (At (position top)) Dead
+      found : Bool → Option ℕ
+      found b = cond b (Some (position top)) None
 
       go : (b : Bool) → cond (sound p) (cond (job_check (found b)).0 (cond (leb (size (tree p (job_place (found b)))) lent) done buffer_overflow) (job_check (found b)).1) not_sound
           ≡ cond (sound p) (cond b (cond enough done buffer_overflow) invalid_job) not_sound

@@ -1,6 +1,7 @@
-// The manager's whole public face: one door for every trap call, a fresh picture, the pick, the tick, the report of a tree, and the text of an error.
+// The manager's whole public face (its keys are numbers, as docs/DECISIONS.md 27 and hosts in C want them): one door for every trap call, a fresh picture, the pick, the tick, the report of a tree, and the text of an error.
 #![tactic(auto)]
 
+use picture::Refusal;
 use turns::Picked;
 use words::word;
 
@@ -8,6 +9,7 @@ use words::word;
 ghost use Rattle.std.specs.Prelude.{◌≡◌};
 ghost use Rattle.calls.specs.Outcome.{Meets};
 ghost use Rattle.calls.specs.Call.{outcome};
+ghost use Rattle.picture.specs.Answers.{answer_key};
 ghost use Rattle.fresh.specs.Fresh.{fresh_key, fresh_picture};
 ghost use Rattle.errors.specs.Text.{Answer, spot_of, error_key};
 ghost use Rattle.manager.specs.Door.{called, checked};
@@ -17,21 +19,21 @@ pub use report_lines::JobLine;
 pub use report_table::{Report, report_tree};
 
 // The picture, then nobody current, then an unknown trap or call, then the call.
-fn answer_call(p: &mut [u32], trap: u32, d: &mut [u32], name: &[u8]) -> i32
-    ensures { Meets (outcome (checked trap name.now) p.old d.old) result p.new d.new }
+fn answer_call(p: &mut [u32], trap: u32, d: &mut [u32], name: &[u8]) -> Result<(), Refusal>
+    ensures { Meets (outcome (checked trap name.now) p.old d.old) (answer_key result) p.new d.new }
 {
     if !sound::is_sound(p) {
-        return picture::NOT_SOUND;
+        return Err(Refusal::NotSound);
     }
     if calls::caller_of(p) == picture::NOBODY {
-        return picture::INVALID_JOB;
+        return Err(Refusal::InvalidJob);
     }
     let code = word(d, calls::D0);
     match trap {
         1 => traps::trap_one(p, code, d),
         2 => traps::trap_two(p, code, d, name),
         3 => traps::trap_three(p, code, d),
-        _ => picture::BAD_PARAMETER,
+        _ => Err(Refusal::BadParameter),
     }
 }
 
@@ -42,7 +44,7 @@ pub fn call(p: &mut [u32], trap: u32, d: &mut [u32], name: &[u8]) -> i32
     if d.len() != calls::REGISTERS {
         return picture::BAD_PARAMETER;
     }
-    let key = answer_call(p, trap, d, name);
+    let key = picture::key_of(answer_call(p, trap, d, name));
     words::put(d, calls::D0, words::bits_of(key));
     key
 }
@@ -51,7 +53,7 @@ pub fn call(p: &mut [u32], trap: u32, d: &mut [u32], name: &[u8]) -> i32
 pub fn fresh(p: &mut [u32], n: u32, h: u32) -> i32
     ensures { (result ≡ fresh_key p.old n h) × (p.new ≡ fresh_picture p.old n h) }
 {
-    fresh::make_fresh(p, n, h)
+    picture::key_of(fresh::make_fresh(p, n, h))
 }
 
 // The pick: gives one ready job its turn.

@@ -1,9 +1,9 @@
 // Sets of positions, by value: bit k is set where position k is a member.
 #![tactic(auto)]
 
-ghost use Rattle.std.specs.Prelude.{◌≡◌, cond, ◌<◌, ◌≤◌};
+ghost use Rattle.std.specs.Prelude.{◌≡◌, ℕ, Bool, cond, ◌<◌, ◌≤◌};
 ghost use Rattle.words.specs.Bits.{bit};
-ghost use Rattle.masks.specs.Masks.{set_width, with_bit, without_bit, without, lowest_clear};
+ghost use Rattle.masks.specs.Masks.{set_width, with_bit, without_bit, without, mask, lowest_clear};
 
 // Position k is a member.
 pub fn is_member(set: u64, k: usize) -> bool
@@ -14,6 +14,7 @@ pub fn is_member(set: u64, k: usize) -> bool
 }
 
 // The set with the member k.
+#[tactic(auto, using(crate::proofs::Masks::one_shifted, crate::proofs::Masks::with_bit_is))]
 pub fn with_member(set: u64, k: usize) -> u64
     requires { k < set_width }
     ensures { result ≡ with_bit set k }
@@ -22,6 +23,7 @@ pub fn with_member(set: u64, k: usize) -> u64
 }
 
 // The set without the member k.
+#[tactic(auto, using(crate::proofs::Masks::one_shifted, crate::proofs::Masks::without_bit_is))]
 pub fn without_member(set: u64, k: usize) -> u64
     requires { k < set_width }
     ensures { result ≡ without_bit set k }
@@ -37,7 +39,23 @@ pub fn with_passing(set: u64, k: usize, passes: bool) -> u64
     set | ((passes as u64) << k)
 }
 
+// The positions below `count` that pass the test.
+pub fn positions_passing<F: Fn(usize) -> bool>(count: usize, passes: F) -> u64
+    ghost test: { ℕ → Bool }
+    requires few { count ≤ set_width }
+    requires safe { (k : ℕ) → k < count → F.pre passes k }
+    requires tells { (k : ℕ) (b : Bool) → k < count → F.post passes k b → b ≡ test k }
+    ensures { result ≡ mask test count }
+{
+    let mut set: u64 = 0;
+    for k in 0..count {
+        set = with_passing(set, k, passes(k));
+    }
+    set
+}
+
 // The members of the set that aren't in the other.
+#[tactic(auto, unfolding(crate::specs::Masks::without))]
 pub fn difference(set: u64, other: u64) -> u64
     ensures { (result ≡ without set other) × (result ≤ set) }
 {
@@ -45,6 +63,7 @@ pub fn difference(set: u64, other: u64) -> u64
 }
 
 // The lowest position that isn't a member, 64 where all are.
+#[tactic(auto, using(crate::proofs::Lowest::complement))]
 pub fn lowest_clear(set: u64) -> usize
     ensures { result ≡ lowest_clear set_width set }
 {

@@ -1,9 +1,10 @@
 -- A byte within a longword, read and written: what was written is read, and every other byte stays.
-use Prim.Native.Nat.{ℕ, ◌+◌, ◌-◌, ◌*◌, ◌/◌, ◌%◌, ◌^◌, ◌≤◌, ◌<◌}
-use mathlib.Core.Path.{◌≡◌, refl, sym, ap, ◌∙◌}
+use Prim.Native.Nat.{ℕ, ◌%◌, ◌≤◌, ◌<◌}
+use mathlib.Core.Path.{◌≡◌, refl, ◌∙◌}
 use mathlib.Core.Logic.{⊎_elim, ◌⊎◌, inl, inr}
 use mathlib.Core.List.{List}
-use lib.ListN.{length, length-set}
+use lib.ListN.{length, length-set, get_or, set}
+use Rattle.std.specs.Int.{w32, to_be_bytes, from_be_bytes}
 use lib.Seq.{get_or-set_same, get_or-set_other}
 use native.Mathlib.Omega.{arith}
 use Rattle.words.specs.Words.{word, put}
@@ -63,21 +64,27 @@ other_byte w b r v s u l n (inr (inr (inr e))) (inr (inl f)) = rw (e.1, f.1) (om
 other_byte w b r v s u l n (inr (inr (inr e))) (inr (inr (inl f))) = rw (e.1, f.1) (omega arith)
 other_byte w b r v s u l n (inr (inr (inr e))) (inr (inr (inr f))) = absurd (omega (arith, e.0, f.0, n))
 
--- what writing a byte computes stays a longword
-pub record Fits (w b v : ℕ) : Type 0 where
-  pub some : 0 < v
-  pub part : byte_in w v * v ≤ w
-  pub byte : b * v < 4294967296
-  pub whole : with_byte_in w v b < 4294967296
+-- the byte of a longword in its place, most significant first
+be_byte : (w r v : ℕ) → Quarter r v → get_or (to_be_bytes w32 w) r 0 ≡ byte_in w v
+be_byte w r v (inl e) = rw (e.0, e.1) refl
+be_byte w r v (inr (inl e)) = rw (e.0, e.1) refl
+be_byte w r v (inr (inr (inl e))) = rw (e.0, e.1) refl
+be_byte w r v (inr (inr (inr e))) = rw (e.0, e.1) (omega arith)
 
-pub byte_fits : (w b r v : ℕ) → w < 4294967296 → b < 256 → Quarter r v → Fits w b v
-byte_fits w b r v h l (inl e) = rw e.1 (record { some = omega arith; part = omega arith; byte = omega arith; whole = omega arith })
-byte_fits w b r v h l (inr (inl e)) = rw e.1 (record { some = omega arith; part = omega arith; byte = omega arith; whole = omega arith })
-byte_fits w b r v h l (inr (inr (inl e))) = rw e.1 (record { some = omega arith; part = omega arith; byte = omega arith; whole = omega arith })
-byte_fits w b r v h l (inr (inr (inr e))) = rw e.1 (record { some = omega arith; part = omega arith; byte = omega arith; whole = omega arith })
+be_set : (w b r v : ℕ) → w < 4294967296 → b < 256 → Quarter r v → from_be_bytes w32 (set (to_be_bytes w32 w) r b) ≡ with_byte_in w v b
+be_set w b r v h l (inl e) = rw (e.0, e.1) (omega arith)
+be_set w b r v h l (inr (inl e)) = rw (e.0, e.1) (omega arith)
+be_set w b r v h l (inr (inr (inl e))) = rw (e.0, e.1) (omega arith)
+be_set w b r v h l (inr (inr (inr e))) = rw (e.0, e.1) (omega arith)
 
-pub weight_some : (j : ℕ) → 0 < weight j
-weight_some j = (byte_fits 0 0 (j % 4) (weight j) (omega arith) (omega arith) (quarter j)).some
+module _ (p : List ℕ) (i j w : ℕ) (reads : w ≡ word p (byte_word i j)) where
+  pub byte_read : get_or (to_be_bytes w32 w) (j % 4) 0 ≡ byte_at p i j
+  unfolding byte_at
+  byte_read = be_byte w (j % 4) (weight j) (quarter j) ∙ rw reads
+
+  pub byte_put : (b : ℕ) → w < 4294967296 → b < 256 → put p (byte_word i j) (from_be_bytes w32 (set (to_be_bytes w32 w) (j % 4) b)) ≡ with_byte_at p i j b
+  unfolding with_byte_at
+  byte_put b h l = rw (be_set w b (j % 4) (weight j) h l (quarter j), reads)
 
 -- a byte that was read is one
 pub byte_at_below : (p : List ℕ) (i j : ℕ) → byte_at p i j < 256

@@ -1,16 +1,16 @@
 -- The ring: its index arithmetic, and the queue as a list. Sending appends, fetching takes the head.
 use Prim.Native.Nat.{ℕ, zero, suc, ◌+◌, ◌-◌, ◌/◌, ◌≤◌, ◌<◌}
 use mathlib.Core.Path.{◌≡◌, refl, sym, ap, ◌∙◌}
-use mathlib.Core.Bool.{Bool, true, false}
-use mathlib.Core.Logic.{⊎_elim, ◌⊎◌, inl, inr}
+use mathlib.Core.Bool.{true, false}
+use mathlib.Core.Logic.{⊎_elim}
 use mathlib.Core.List.{List, [], ◌∷◌, ◌++◌}
 use lib.ListN.{length, length-set}
 use lib.Seq.{get_or-set_same, get_or-set_other}
 use lib.Dec.{leb}
 use native.Mathlib.Omega.{arith}
 use native.Mathlib.Numerals.{add-one}
-use borrow.Author.Tests.{lt-ltb, le-ltb, leb-true, leb-false, le-leb, lt-leb}
-use Rattle.words.specs.Words.{word, put}
+use borrow.Author.Tests.{lt-ltb, le-ltb, leb-true, leb-false}
+use Rattle.words.specs.Words.{word}
 use Rattle.words.proofs.Tests.{lt_or_ge}
 use Rattle.blocks.specs.Header.{queue_length_field, queue_oldest_field, queue_count_field, queue_bytes_field, with_queue_oldest, queue_length, queue_oldest, queue_count}
 use Rattle.queues.specs.Bytes.{byte_word, byte_at, with_byte_at}

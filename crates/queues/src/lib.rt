@@ -3,30 +3,19 @@
 
 ghost use Rattle.std.specs.Prelude.{◌≡◌, true, false, ◌+◌, ◌<◌, ◌≤◌};
 ghost use Rattle.blocks.specs.Header.{queue_oldest};
-ghost use Rattle.queues.specs.Bytes.{weight, byte_at, with_byte_at};
+ghost use Rattle.queues.specs.Bytes.{byte_at, with_byte_at};
 ghost use Rattle.queues.specs.Ring.{Ring, index, waits, full, oldest_byte, fetched, sent};
 
 use blocks::{QUEUE_BYTES, QUEUE_COUNT, QUEUE_LENGTH, QUEUE_OLDEST};
 use words::{put, word};
-
-// What a 1 in byte j is worth within its longword: the first byte is the most significant.
-pub fn weight_of(j: usize) -> u32
-    ensures { result ≡ weight j }
-{
-    match j % 4 {
-        0 => 0x100_0000,
-        1 => 0x1_0000,
-        2 => 0x100,
-        _ => 1,
-    }
-}
 
 // Byte j of the queue.
 pub fn read_byte(p: &[u32], i: usize, j: usize) -> u32
     requires { (i < 8589934592) × (j < 8589934592) }
     ensures { result ≡ byte_at p.now i j }
 {
-    word(p, i + QUEUE_BYTES + j / 4) / weight_of(j) % 256
+    let bytes = word(p, i + QUEUE_BYTES + j / 4).to_be_bytes();
+    u32::from(bytes[j % 4])
 }
 
 // Stores b as byte j of the queue.
@@ -35,9 +24,9 @@ pub fn write_byte(p: &mut [u32], i: usize, j: usize, b: u32)
     ensures { p.new ≡ with_byte_at p.old i j b }
 {
     let at = i + QUEUE_BYTES + j / 4;
-    let w = word(p, at);
-    let v = weight_of(j);
-    put(p, at, w - w / v % 256 * v + b * v);
+    let mut bytes = word(p, at).to_be_bytes();
+    bytes[j % 4] = b as u8;
+    put(p, at, u32::from_be_bytes(bytes));
 }
 
 // The index of the byte that j others come before, round at the queue's length.

@@ -16,8 +16,7 @@ pub fn climbs_to(p: &[u32], t: usize, k: usize) -> bool
     ensures { result ≡ climbs (positions Jobs) p.now t k }
 {
     let mut j = k;
-    let mut n = JOBS;
-    while 0 < n {
+    for _ in 0..JOBS {
         if j == t {
             return true;
         }
@@ -29,12 +28,12 @@ pub fn climbs_to(p: &[u32], t: usize, k: usize) -> bool
             return false;
         }
         j = picture::position_of(owner);
-        n -= 1;
     }
     j == t
 }
 
 // The job at position k is live and in the tree of the job at position t.
+#[tactic(auto, unfolding(crate::specs::Tree::in_tree))]
 pub fn is_in_tree(p: &[u32], t: usize, k: usize) -> bool
     requires { k < tag_weight }
     ensures { result ≡ in_tree p.now t k }
@@ -46,13 +45,9 @@ pub fn is_in_tree(p: &[u32], t: usize, k: usize) -> bool
 }
 
 // The positions of the tree of the job at position t.
+#[tactic(auto, unfolding(crate::specs::Tree::tree))]
 pub fn tree_of(p: &[u32], t: usize) -> u64
     ensures { result ≡ tree p.now t }
 {
-    let mut set: u64 = 0;
-    for k in 0..JOBS {
-        let member = is_in_tree(p, t, k);
-        set = masks::with_passing(set, k, member);
-    }
-    set
+    masks::positions_passing(JOBS, |k| is_in_tree(p, t, k))
 }

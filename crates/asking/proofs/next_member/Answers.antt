@@ -1,7 +1,6 @@
 use Rattle.picture.specs.Layout.{positions}
 use Rattle.picture.specs.declared.Table.TheVariants.{Jobs}
 use mathlib.Core.Path.{◌≡◌, refl, sym, ◌∙◌}
-use Prim.Native.Nat.{◌-◌}
 use Rattle.asking.specs.Next.{next_below, next_member}
 use Rattle.asking.proofs.Next.{next_takes, next_passes}
 use native.Mathlib.Omega.{arith}

@@ -1,13 +1,9 @@
 use mathlib.Core.Path.{◌≡◌}
 use Prim.Native.Nat.{◌+◌, ◌-◌}
 use native.Mathlib.Omega.{arith}
-use Rattle.picture.proofs.Members.{positions_within}
 use Rattle.masks.proofs.Masks.{without_bit_le}
 use Rattle.channels.specs.Effects.{forgotten}
 use Rattle.channels.proofs.forget.Goals as goal
-
-pub without_member-left-requires : goal.without_member-left-requires
-without_member-left-requires c = omega (arith, c.requires, positions_within c.args.t)
 
 pub put_members-requires : goal.put_members-requires
 put_members-requires c =

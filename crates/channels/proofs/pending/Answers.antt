@@ -1,8 +1,7 @@
 use mathlib.Core.Path.{sym, ◌∙◌}
-use Rattle.words.specs.Words.{word}
 use Rattle.calls.proofs.Outcome.{meets_refuse, meets_succeed}
 use Rattle.calls.specs.Call.{outcome}
-use Rattle.channels.proofs.Found.{Named, channel_named}
+use Rattle.channels.proofs.Found.{channel_named}
 use Rattle.channels.specs.Calls.{pending}
 use Rattle.channels.proofs.pending.Goals as goal
 
@@ -13,20 +12,20 @@ returns-in_default c = meets_refuse _ _ _ _ (rw (sym c.channel_named.ensures ∙
 pub returns-then-not-is_immediate : goal.returns-then-not-is_immediate
 unfolding pending outcome
 returns-then-not-is_immediate c =
-    let f = (let z : Named c.args.p.now (word c.args.d.now 4) c.in-At.k = channel_named _ _ _ (sym c.channel_named.ensures ∙ c.in-At.is) in z) in
+    let f = (channel_named _ _ _ (sym c.channel_named.ensures ∙ c.in-Some.is)) in
     meets_refuse _ _ _ _ (rw (f.finds, sym c.is_immediate.ensures ∙ c.if-not-is_immediate.true))
 
 pub queue_at-requires : goal.queue_at-requires
-queue_at-requires c = ((let z : Named c.args.p.now (word c.args.d.now 4) c.in-At.k = channel_named _ _ _ (sym c.channel_named.ensures ∙ c.in-At.is) in z)).below
+queue_at-requires c = (channel_named _ _ _ (sym c.channel_named.ensures ∙ c.in-Some.is)).below
 
 pub returns-then-not-is_waiting : goal.returns-then-not-is_waiting
 unfolding pending outcome
 returns-then-not-is_waiting c =
-    let f = (let z : Named c.args.p.now (word c.args.d.now 4) c.in-At.k = channel_named _ _ _ (sym c.channel_named.ensures ∙ c.in-At.is) in z) in
+    let f = (channel_named _ _ _ (sym c.channel_named.ensures ∙ c.in-Some.is)) in
     meets_refuse _ _ _ _ (rw (f.finds, sym c.is_immediate.ensures ∙ c.if-not-is_immediate.false, rw c.queue_at.ensures.0 at (sym c.is_waiting.ensures ∙ c.if-not-is_waiting.true)))
 
 pub returns : goal.returns
 unfolding pending outcome
 returns c =
-    let f = (let z : Named c.args.p.now (word c.args.d.now 4) c.in-At.k = channel_named _ _ _ (sym c.channel_named.ensures ∙ c.in-At.is) in z) in
+    let f = (channel_named _ _ _ (sym c.channel_named.ensures ∙ c.in-Some.is)) in
     meets_succeed _ _ _ (rw (f.finds, sym c.is_immediate.ensures ∙ c.if-not-is_immediate.false, rw c.queue_at.ensures.0 at (sym c.is_waiting.ensures ∙ c.if-not-is_waiting.false)))

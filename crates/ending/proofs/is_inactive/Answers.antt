@@ -1,16 +1,12 @@
 use Rattle.picture.specs.Layout.{positions}
 use Rattle.picture.specs.declared.Table.TheVariants.{Jobs}
 use Rattle.ending.specs.Remove.{at_rest}
-use mathlib.Core.Path.{◌≡◌, refl, sym, ap}
-use mathlib.Core.Bool.{true, false, not}
-use Prim.Native.Nat.{◌-◌}
+use mathlib.Core.Path.{◌≡◌, sym, ap}
+use mathlib.Core.Bool.{not}
 use Rattle.words.proofs.Each.{every_not, every_next}
 use Rattle.ending.specs.Remove.{inactive}
 use native.Mathlib.Omega.{arith}
 use Rattle.ending.proofs.is_inactive.Goals as goal
-
-pub loop-k-init : goal.loop-k-init
-loop-k-init c = (omega arith, refl)
 
 pub returns-then-is_member-is_active : goal.returns-then-is_member-is_active
 unfolding inactive at_rest

@@ -1,11 +1,7 @@
-use mathlib.Core.Path.{◌≡◌}
-use Prim.Native.Nat.{◌-◌, ◌≤◌}
-use lib.ListN.{length}
+use Rattle.std.proofs.Common.{◌≡◌, ◌≤◌, length}
+use Rattle.std.specs.Prelude.{Some}
 use Rattle.errors.specs.Text.{nth_at}
 use Rattle.errors.proofs.nth_at.Given as goal
 
-abbrev pub invariant-loop-i : goal.invariant-loop-i
-invariant-loop-i l = (l.at ≤ length l.s) × (l.i ≤ l.n) × (nth_at l.s l.n 0 ≡ nth_at l.s (l.n - l.i) l.at)
-
-abbrev pub decreases-loop-i : goal.decreases-loop-i
-decreases-loop-i l = l.n - l.i
+abbrev pub invariant-loop : goal.invariant-loop
+invariant-loop l = (l.counter ≤ l.n) × (l.at ≤ length l.s) × (nth_at l.s l.counter ≡ Some l.at)

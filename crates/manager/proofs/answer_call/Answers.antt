@@ -1,7 +1,5 @@
 use Rattle.manager.proofs.Door.{checked_unsound, checked_nobody, checked_named, named_one, named_two, named_three, named_unknown, meets_equal}
 use Rattle.calls.proofs.Outcome.{meets_refuse}
-use mir.ValLaws.{to_z-of_z}
-use mir.Syntax.{w32}
 use mathlib.Core.Bool.{true}
 use mathlib.Core.Path.{sym, ◌∙◌}
 use native.Mathlib.Omega.{arith}
@@ -25,20 +23,17 @@ trap_three-requires c = sym c.is_sound.ensures ∙ c.if-not-is_sound.false
 pub returns-in-1 : goal.returns-in-1
 returns-in-1 c =
     let s = sym c.is_sound.ensures ∙ c.if-not-is_sound.false in
-    rw (to_z-of_z w32 c.trap_one.result (record { sfits = c.trap_one.type_inv }))
-    (meets_equal _ _ _ _ _ (checked_named _ _ _ _ s (λ z. c.if-caller_of.false (c.caller_of.ensures ∙ z)) ∙ named_one _ _ _ _ c.in-1.is) (rw c.word-code.ensures at c.trap_one.ensures))
+    meets_equal _ _ _ _ _ (checked_named _ _ _ _ s (λ z. c.if-caller_of.false (c.caller_of.ensures ∙ z)) ∙ named_one _ _ _ _ c.in-1.is) (rw c.word-code.ensures at c.trap_one.ensures)
 
 pub returns-in-2 : goal.returns-in-2
 returns-in-2 c =
     let s = sym c.is_sound.ensures ∙ c.if-not-is_sound.false in
-    rw (to_z-of_z w32 c.trap_two.result (record { sfits = c.trap_two.type_inv }))
-    (meets_equal _ _ _ _ _ (checked_named _ _ _ _ s (λ z. c.if-caller_of.false (c.caller_of.ensures ∙ z)) ∙ named_two _ _ _ _ c.in-2.is) (rw c.word-code.ensures at c.trap_two.ensures))
+    meets_equal _ _ _ _ _ (checked_named _ _ _ _ s (λ z. c.if-caller_of.false (c.caller_of.ensures ∙ z)) ∙ named_two _ _ _ _ c.in-2.is) (rw c.word-code.ensures at c.trap_two.ensures)
 
 pub returns-in-3 : goal.returns-in-3
 returns-in-3 c =
     let s = sym c.is_sound.ensures ∙ c.if-not-is_sound.false in
-    rw (to_z-of_z w32 c.trap_three.result (record { sfits = c.trap_three.type_inv }))
-    (meets_equal _ _ _ _ _ (checked_named _ _ _ _ s (λ z. c.if-caller_of.false (c.caller_of.ensures ∙ z)) ∙ named_three _ _ _ _ c.in-3.is) (rw c.word-code.ensures at c.trap_three.ensures))
+    meets_equal _ _ _ _ _ (checked_named _ _ _ _ s (λ z. c.if-caller_of.false (c.caller_of.ensures ∙ z)) ∙ named_three _ _ _ _ c.in-3.is) (rw c.word-code.ensures at c.trap_three.ensures)
 
 pub returns-in_default : goal.returns-in_default
 returns-in_default c =

@@ -10,7 +10,7 @@ returns-then-d-ne-REGISTERS c = meets_refuse _ _ _ _ (called_otherwise _ _ _ _ c
 
 pub returns : goal.returns
 returns c =
-    let k = c.answer_call-key in
+    let k = c.key_of-key in
     let z = to_z-of_z w32 k.result (record { sfits = k.type_inv }) in
     rw (z, c.put.ensures, c.bits_of.ensures)
-    (meets_equal _ _ _ _ _ (called_with_eight _ _ _ _ c.if-d-ne-REGISTERS.false) (rw z (meets_with_key _ _ _ _ k.ensures)))
+    (meets_equal _ _ _ _ _ (called_with_eight _ _ _ _ c.if-d-ne-REGISTERS.false) (rw (z, k.ensures) (meets_with_key _ _ _ _ c.answer_call.ensures)))

@@ -2,58 +2,56 @@ use Rattle.calls.specs.Call.{outcome}
 use Rattle.traps.specs.Traps.{trap_one}
 use Rattle.calls.proofs.Outcome.{meets_refuse}
 use borrow.Author.Tests.{ne_eqb}
-use mir.ValLaws.{to_z-of_z}
-use mir.Syntax.{w32}
 use native.Mathlib.Omega.{arith}
 use Rattle.traps.proofs.trap_one.Goals as goal
 
 pub returns-in-0 : goal.returns-in-0
 unfolding trap_one outcome
-returns-in-0 c = rw (c.in-0.is, to_z-of_z w32 c.information.result (record { sfits = c.information.type_inv })) c.information.ensures
+returns-in-0 c = rw c.in-0.is c.information.ensures
 
 pub returns-in-1 : goal.returns-in-1
 unfolding trap_one outcome
-returns-in-1 c = rw (c.in-1.is, to_z-of_z w32 c.create.result (record { sfits = c.create.type_inv })) c.create.ensures
+returns-in-1 c = rw c.in-1.is c.create.ensures
 
 pub returns-in-2 : goal.returns-in-2
 unfolding trap_one outcome
-returns-in-2 c = rw (c.in-2.is, to_z-of_z w32 c.ask.result (record { sfits = c.ask.type_inv })) c.ask.ensures
+returns-in-2 c = rw c.in-2.is c.ask.ensures
 
 pub returns-in-4 : goal.returns-in-4
 unfolding trap_one outcome
-returns-in-4 c = rw (c.in-4.is, to_z-of_z w32 c.remove.result (record { sfits = c.remove.type_inv })) c.remove.ensures
+returns-in-4 c = rw c.in-4.is c.remove.ensures
 
 pub returns-in-5 : goal.returns-in-5
 unfolding trap_one outcome
-returns-in-5 c = rw (c.in-5.is, to_z-of_z w32 c.force_remove.result (record { sfits = c.force_remove.type_inv })) c.force_remove.ensures
+returns-in-5 c = rw c.in-5.is c.force_remove.ensures
 
 pub returns-in-6 : goal.returns-in-6
 unfolding trap_one outcome
-returns-in-6 c = rw (c.in-6.is, to_z-of_z w32 c.longest_room.result (record { sfits = c.longest_room.type_inv })) c.longest_room.ensures
+returns-in-6 c = rw c.in-6.is c.longest_room.ensures
 
 pub returns-in-8 : goal.returns-in-8
 unfolding trap_one outcome
-returns-in-8 c = rw (c.in-8.is, to_z-of_z w32 c.suspend.result (record { sfits = c.suspend.type_inv })) c.suspend.ensures
+returns-in-8 c = rw c.in-8.is c.suspend.ensures
 
 pub returns-in-9 : goal.returns-in-9
 unfolding trap_one outcome
-returns-in-9 c = rw (c.in-9.is, to_z-of_z w32 c.release.result (record { sfits = c.release.type_inv })) c.release.ensures
+returns-in-9 c = rw c.in-9.is c.release.ensures
 
 pub returns-in-10 : goal.returns-in-10
 unfolding trap_one outcome
-returns-in-10 c = rw (c.in-10.is, to_z-of_z w32 c.activate.result (record { sfits = c.activate.type_inv })) c.activate.ensures
+returns-in-10 c = rw c.in-10.is c.activate.ensures
 
 pub returns-in-11 : goal.returns-in-11
 unfolding trap_one outcome
-returns-in-11 c = rw (c.in-11.is, to_z-of_z w32 c.set_priority.result (record { sfits = c.set_priority.type_inv })) c.set_priority.ensures
+returns-in-11 c = rw c.in-11.is c.set_priority.ensures
 
 pub returns-in-24 : goal.returns-in-24
 unfolding trap_one outcome
-returns-in-24 c = rw (c.in-24.is, to_z-of_z w32 c.take.result (record { sfits = c.take.type_inv })) c.take.ensures
+returns-in-24 c = rw c.in-24.is c.take.ensures
 
 pub returns-in-25 : goal.returns-in-25
 unfolding trap_one outcome
-returns-in-25 c = rw (c.in-25.is, to_z-of_z w32 c.give_back.result (record { sfits = c.give_back.type_inv })) c.give_back.ensures
+returns-in-25 c = rw c.in-25.is c.give_back.ensures
 
 pub returns-in_default : goal.returns-in_default
 unfolding trap_one outcome

@@ -2,22 +2,20 @@ use Rattle.calls.specs.Call.{outcome}
 use Rattle.traps.specs.Traps.{trap_three}
 use Rattle.calls.proofs.Outcome.{meets_refuse}
 use borrow.Author.Tests.{ne_eqb}
-use mir.ValLaws.{to_z-of_z}
-use mir.Syntax.{w32}
 use native.Mathlib.Omega.{arith}
 use Rattle.traps.proofs.trap_three.Goals as goal
 
 pub returns-in-0 : goal.returns-in-0
 unfolding trap_three outcome
-returns-in-0 c = rw (c.in-0.is, to_z-of_z w32 c.pending.result (record { sfits = c.pending.type_inv })) c.pending.ensures
+returns-in-0 c = rw c.in-0.is c.pending.ensures
 
 pub returns-in-1 : goal.returns-in-1
 unfolding trap_three outcome
-returns-in-1 c = rw (c.in-1.is, to_z-of_z w32 c.fetch.result (record { sfits = c.fetch.type_inv })) c.fetch.ensures
+returns-in-1 c = rw c.in-1.is c.fetch.ensures
 
 pub returns-in-5 : goal.returns-in-5
 unfolding trap_three outcome
-returns-in-5 c = rw (c.in-5.is, to_z-of_z w32 c.send.result (record { sfits = c.send.type_inv })) c.send.ensures
+returns-in-5 c = rw c.in-5.is c.send.ensures
 
 pub returns-in_default : goal.returns-in_default
 unfolding trap_three outcome

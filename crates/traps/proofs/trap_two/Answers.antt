@@ -2,18 +2,16 @@ use Rattle.calls.specs.Call.{outcome}
 use Rattle.traps.specs.Traps.{trap_two}
 use Rattle.calls.proofs.Outcome.{meets_refuse}
 use borrow.Author.Tests.{ne_eqb}
-use mir.ValLaws.{to_z-of_z}
-use mir.Syntax.{w32}
 use native.Mathlib.Omega.{arith}
 use Rattle.traps.proofs.trap_two.Goals as goal
 
 pub returns-in-1 : goal.returns-in-1
 unfolding trap_two outcome
-returns-in-1 c = rw (c.in-1.is, to_z-of_z w32 c.open_channel.result (record { sfits = c.open_channel.type_inv })) c.open_channel.ensures
+returns-in-1 c = rw c.in-1.is c.open_channel.ensures
 
 pub returns-in-2 : goal.returns-in-2
 unfolding trap_two outcome
-returns-in-2 c = rw (c.in-2.is, to_z-of_z w32 c.close_channel.result (record { sfits = c.close_channel.type_inv })) c.close_channel.ensures
+returns-in-2 c = rw c.in-2.is c.close_channel.ensures
 
 pub returns-in_default : goal.returns-in_default
 unfolding trap_two outcome
