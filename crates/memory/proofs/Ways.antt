@@ -1,20 +1,17 @@
 -- The ways out of the calls, one law each.
-use Prim.Native.Nat.{ℕ, ◌≤◌, ◌<◌}
+use Prim.Native.Nat.{ℕ, ◌<◌}
 use mathlib.Core.Path.{◌≡◌, ◌∙◌}
-use mathlib.Core.Bool.{Bool, true, false}
+use mathlib.Core.Bool.{true, false}
 use mathlib.Core.List.{List}
 use lib.Dec.{leb, ltb}
 use borrow.Author.Tests.{ltb-true}
 use Rattle.std.proofs.Common.{Some, None}
-use Rattle.words.specs.Each.{any}
 use Rattle.words.proofs.Tests.{both}
 use Rattle.picture.specs.Layout.{from, upto}
 use Rattle.picture.specs.Numbers.{job_at}
 use Rattle.picture.specs.Keys.{done, invalid_job, out_of_memory, bad_parameter}
 use Rattle.picture.specs.declared.Area.TheVariants.{Heap}
 use Rattle.blocks.specs.Header.{plain_kind}
-use Rattle.blocks.specs.Walk.{starts, next}
-use Rattle.blocks.proofs.Walk.{starts_end, starts_more}
 use Rattle.placing.specs.Place.{answer, after}
 use Rattle.placing.proofs.Answer.{after_at, after_nowhere}
 use Rattle.rooms.specs.Room.{spot, room_at}

@@ -28,10 +28,7 @@ pub fn clear_registers(d: &mut [u32])
 pub fn room_of(length: u32) -> u32
     ensures { result ≡ length - 16 }
 {
-    if length < 16 {
-        return 0;
-    }
-    length - 16
+    length.saturating_sub(16)
 }
 
 // $6: the longest free room of the transient area.
@@ -116,10 +113,7 @@ pub fn is_plain_room(p: &[u32], a: u32) -> bool
 pub fn block_before(a: u32) -> usize
     ensures { result ≡ block_before a }
 {
-    if a < 16 {
-        return 0;
-    }
-    (a / 4) as usize - blocks::HEADER
+    ((a / 4) as usize).saturating_sub(blocks::HEADER)
 }
 
 // $19: gives heap space back.

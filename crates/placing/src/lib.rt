@@ -1,4 +1,5 @@
 // Placing a block in an area of a lent picture, from longword base up to e.
+// The two ends stay two numbers: the definitions and the laws have them so, and the areas share the longword between them.
 #![tactic(auto)]
 
 ghost use Rattle.std.specs.Prelude.{◌≡◌, ◌<◌, ◌≤◌, length};
@@ -17,7 +18,7 @@ pub fn is_fit(p: &[u32], i: usize, n: u64) -> bool
     (word(p, i + KIND) == FREE) & (n <= word(p, i) as u64)
 }
 
-// The block where n bytes are placed, e for none.
+// The block where n bytes are placed, e for none. Document 01's form is the walk that ends by `break`; with it, as in the definition, the end stands for none.
 pub fn choose(p: &[u32], base: usize, e: usize, n: u64) -> usize
     ensures { result ≡ chosen p.now base e n }
 {

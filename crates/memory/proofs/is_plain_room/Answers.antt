@@ -20,6 +20,6 @@ pub returns-then-is_plain_at : goal.returns-then-is_plain_at
 unfolding is_plain_room
 returns-then-is_plain_at c = sym (c.loop-i.invariant.3 ∙ rw (c.in-Some.ensures.steps, sym c.is_plain_at.ensures ∙ c.if-is_plain_at.true))
 
-pub returns-in-None : goal.returns-in-None
+pub returns : goal.returns
 unfolding is_plain_room
-returns-in-None c = sym (c.loop-i.invariant.3 ∙ rw c.in-None.ensures.steps.0)
+returns c = sym (c.loop-i.invariant.3 ∙ rw c.in-None.ensures.steps.0)
