@@ -3,6 +3,7 @@ use Rattle.std.specs.Prelude.{ℕ, zero, suc, ◌+◌, ◌-◌, ◌/◌, ◌%◌
 use Rattle.picture.specs.Layout.{from, upto}
 use Rattle.picture.specs.declared.Area.{Area}
 use Rattle.blocks.specs.Header.{size}
+use Rattle.blocks.specs.declared.Blocks.{Blocks}
 
 -- the block at i is whole: its length is a multiple of 16, at least 16, and it ends within the area
 unfoldable pub good : List ℕ → ℕ → ℕ → Bool
@@ -24,3 +25,7 @@ starts p i e = starts_within (e - i) p i e
 -- the blocks of an area
 abbrev pub blocks : List ℕ → Area → List ℕ
 blocks p a = starts p (from p a) (upto p a)
+
+-- the starts that are left of a walk
+abbrev pub left : Blocks → List ℕ
+left walk = starts walk.picture.now walk.start walk.end

@@ -2,10 +2,11 @@
 #![tactic(auto)]
 
 ghost use Rattle.std.specs.Prelude.{◌≡◌, ◌+◌, ◌-◌, ◌≤◌, ◌<◌};
-ghost use Rattle.blocks.specs.Walk.{good, next};
+ghost use Rattle.std.specs.Iterator.{YieldsFirst, item_count};
+ghost use Rattle.blocks.specs.Walk.{good, next, starts, blocks, left};
 ghost use Rattle.blocks.specs.Header.{rounded, kind_of};
 
-use picture::Table;
+use picture::{Area, Table};
 use words::word;
 
 // The kinds of blocks.
@@ -73,4 +74,49 @@ pub fn next_block(p: &[u32], i: usize, e: usize) -> usize
         return i + word(p, i) as usize / 4;
     }
     e
+}
+
+// The starts of the blocks from longword i up to e that are left of a walk.
+#[derive(Drop)]
+pub struct Blocks<'a> {
+    picture: &'a [u32],
+    start: usize,
+    end: usize,
+}
+
+impl<'a> Blocks<'a> {
+    // The walk over the blocks from longword base up to e.
+    pub fn new(p: &'a [u32], base: usize, e: usize) -> Blocks<'a>
+        ensures { left result ≡ starts p.now base e }
+    {
+        Blocks {
+            picture: p,
+            start: base,
+            end: e,
+        }
+    }
+
+    // The walk over the blocks of an area.
+    pub fn of_area(p: &'a [u32], a: Area) -> Blocks<'a>
+        ensures { left result ≡ blocks p.now a }
+    {
+        Blocks::new(p, picture::area_from(p, a), picture::area_upto(p, a))
+    }
+}
+
+impl<'a> Iterator for Blocks<'a> {
+    type Item = usize;
+
+    ghost next_gives = { YieldsFirst left };
+
+    ghost remaining = { item_count left };
+
+    fn next(&mut self) -> Option<usize> {
+        if self.end <= self.start {
+            return None;
+        }
+        let i = self.start;
+        self.start = next_block(self.picture, i, self.end);
+        Some(i)
+    }
 }

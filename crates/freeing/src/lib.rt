@@ -65,7 +65,8 @@ pub fn join_block(p: &mut [u32], e: usize, r: usize, i: usize)
     }
 }
 
-// Where the run of free blocks that ends with the block at i starts, e where that block is in use.
+// Where the run of free blocks that ends with the block at i starts, e where that block is in use: below no block of the area, so `r < i` is false there too,
+// and an Option would make it two tests.
 #[tactic(auto, unfolding(crate::specs::Sweep::run))]
 pub fn run_start(p: &[u32], e: usize, r: usize, i: usize) -> usize
     requires { i < greatest_size }
@@ -80,7 +81,7 @@ pub fn run_start(p: &[u32], e: usize, r: usize, i: usize) -> usize
     i
 }
 
-// The blocks of the area from base to e that go are free, and free neighbours are one block.
+// The blocks of the area from base to e that go are free, and free neighbours are one block. The walk writes what it goes over, which an iterator would hold lent.
 pub fn sweep(p: &mut [u32], base: usize, e: usize, set: u64, block: usize)
     requires { e ≤ greatest_size }
     ensures { p.new ≡ swept p.old base e set block }

@@ -8,6 +8,7 @@ use blocks::{FREE, HOLDER, KIND, START};
 use words::put;
 
 // What a header says of its block beside the length: its kind, its owner and the start address of a job, else 0.
+// The kind is the longword that stands there and no enum, since a header may be written with any.
 #[derive(Clone, Copy, Debug, PartialEq, Eq)]
 pub struct Block {
     pub kind: u32,

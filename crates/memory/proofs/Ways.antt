@@ -1,20 +1,17 @@
 -- The ways out of the calls, one law each.
-use Prim.Native.Nat.{ℕ, ◌≤◌, ◌<◌}
+use Prim.Native.Nat.{ℕ, ◌<◌}
 use mathlib.Core.Path.{◌≡◌, ◌∙◌}
-use mathlib.Core.Bool.{Bool, true, false}
+use mathlib.Core.Bool.{true, false}
 use mathlib.Core.List.{List}
 use lib.Dec.{leb, ltb}
 use borrow.Author.Tests.{ltb-true}
 use Rattle.std.proofs.Common.{Some, None}
-use Rattle.words.specs.Each.{any}
 use Rattle.words.proofs.Tests.{both}
 use Rattle.picture.specs.Layout.{from, upto}
 use Rattle.picture.specs.Numbers.{job_at}
 use Rattle.picture.specs.Keys.{done, invalid_job, out_of_memory, bad_parameter}
 use Rattle.picture.specs.declared.Area.TheVariants.{Heap}
 use Rattle.blocks.specs.Header.{plain_kind}
-use Rattle.blocks.specs.Walk.{starts, next}
-use Rattle.blocks.proofs.Walk.{starts_end, starts_more}
 use Rattle.placing.specs.Place.{answer, after}
 use Rattle.placing.proofs.Answer.{after_at, after_nowhere}
 use Rattle.rooms.specs.Room.{spot, room_at}
@@ -70,14 +67,3 @@ module _ (p d : List ℕ) where
 pub length_small : (n : ℕ) → length_good n ≡ true → n < 2147483648
 unfolding length_good
 length_small n h = ltb-true n 2147483648 (both (leb 1 n) (ltb n 2147483648) h).1
-
--- a walk that looks for a block
-module _ (p : List ℕ) (f : ℕ → Bool) (i e : ℕ) where
-  pub any_end : e ≤ i → any f (starts p i e) ≡ false
-  any_end h = rw (starts_end p i e h)
-
-  pub any_here : i < e → f i ≡ true → any f (starts p i e) ≡ true
-  any_here l h = rw (starts_more p i e l, h)
-
-  pub any_more : i < e → f i ≡ false → any f (starts p i e) ≡ any f (starts p (next p i e) e)
-  any_more l h = rw (starts_more p i e l, h)

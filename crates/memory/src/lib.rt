@@ -11,7 +11,7 @@ ghost use Rattle.calls.specs.Registers.{cleared};
 ghost use Rattle.memory.specs.Memory.{length_good, room_registers, longest_room, take};
 ghost use Rattle.memory.specs.Memory.{plain_room, is_plain_room, block_before, give_back};
 
-use blocks::next_block;
+use blocks::Blocks;
 use calls::{A0, D1, D2};
 use headers::Block;
 use picture::{Area, Refusal};
@@ -28,10 +28,7 @@ pub fn clear_registers(d: &mut [u32])
 pub fn room_of(length: u32) -> u32
     ensures { result ≡ length - 16 }
 {
-    if length < 16 {
-        return 0;
-    }
-    length - 16
+    length.saturating_sub(16)
 }
 
 // $6: the longest free room of the transient area.
@@ -104,13 +101,10 @@ pub fn is_plain_at(p: &[u32], a: u32, i: usize) -> bool
 pub fn is_plain_room(p: &[u32], a: u32) -> bool
     ensures { result ≡ is_plain_room p.now a }
 {
-    let e = picture::area_upto(p, Area::Heap);
-    let mut i = picture::area_from(p, Area::Heap);
-    while i < e {
+    for i in Blocks::of_area(p, Area::Heap) {
         if is_plain_at(p, a, i) {
             return true;
         }
-        i = next_block(p, i, e);
     }
     false
 }
@@ -119,10 +113,7 @@ pub fn is_plain_room(p: &[u32], a: u32) -> bool
 pub fn block_before(a: u32) -> usize
     ensures { result ≡ block_before a }
 {
-    if a < 16 {
-        return 0;
-    }
-    (a / 4) as usize - blocks::HEADER
+    ((a / 4) as usize).saturating_sub(blocks::HEADER)
 }
 
 // $19: gives heap space back.

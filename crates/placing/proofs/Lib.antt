@@ -1,4 +1,4 @@
 -- Laws of the definitions of specs/.
-pub mod Walk
+pub mod Count
 pub mod Chosen
 pub mod Answer

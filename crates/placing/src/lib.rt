@@ -1,10 +1,11 @@
 // Placing a block in an area of a lent picture, from longword base up to e.
+// The two ends stay two numbers: the definitions and the laws have them so, and the areas share the longword between them.
 #![tactic(auto)]
 
 ghost use Rattle.std.specs.Prelude.{◌≡◌, ◌<◌, ◌≤◌, length};
 ghost use Rattle.placing.specs.Place.{fits, chosen, split, placed, longer, longest, Placing};
 
-use blocks::{FREE, HEADER, KIND, next_block};
+use blocks::{Blocks, FREE, HEADER, KIND};
 use headers::{Block, FREE_BLOCK, put_header};
 use words::{clear, word};
 
@@ -17,21 +18,18 @@ pub fn is_fit(p: &[u32], i: usize, n: u64) -> bool
     (word(p, i + KIND) == FREE) & (n <= word(p, i) as u64)
 }
 
-// The block where n bytes are placed, e for none.
+// The block where n bytes are placed, e for none. Document 01's form is the walk that ends by `break`; with it, as in the definition, the end stands for none.
 pub fn choose(p: &[u32], base: usize, e: usize, n: u64) -> usize
     ensures { result ≡ chosen p.now base e n }
 {
-    let mut i = base;
-    while i < e {
+    let mut at = e;
+    for i in Blocks::new(p, base, e) {
         if is_fit(p, i, n) {
+            at = i;
             break;
         }
-        i = next_block(p, i, e);
     }
-    if i < e {
-        return i;
-    }
-    e
+    at
 }
 
 // What is left of the block at i after n bytes is a free block.
@@ -47,7 +45,7 @@ pub fn split_block(p: &mut [u32], i: usize, n: u32)
 }
 
 // A block of n bytes stands at the low end of the free block at i, its room cleared.
-#[tactic(auto, unfolding(crate::specs::Place::placed), using(crate::proofs::Walk::room_count))]
+#[tactic(auto, unfolding(crate::specs::Place::placed), using(crate::proofs::Count::room_count))]
 pub fn place_at(p: &mut [u32], i: usize, n: u32, block: Block)
     requires { i < length p.old }
     ensures { p.new ≡ placed p.old i n block.kind block.owner block.start }
@@ -89,10 +87,8 @@ pub fn longest_free(p: &[u32], base: usize, e: usize) -> u32
     ensures { result ≡ longest p.now base e }
 {
     let mut best = 0;
-    let mut i = base;
-    while i < e {
+    for i in Blocks::new(p, base, e) {
         best = longer_of(p, best, i);
-        i = next_block(p, i, e);
     }
     best
 }

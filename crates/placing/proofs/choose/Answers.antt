@@ -1,34 +1,22 @@
-use Rattle.placing.proofs.Walk.{first_end, first_here, first_more}
+use Rattle.std.proofs.Common.{refl, sym, ◌∙◌, arith}
+use Rattle.blocks.proofs.Starts.{starts_rising, rising_weaker}
 use Rattle.placing.specs.Place.{chosen}
-use Rattle.blocks.proofs.Walk.{next_falls}
-use mathlib.Core.Path.{refl, sym, ◌∙◌}
-use native.Mathlib.Omega.{arith}
 use Rattle.placing.proofs.choose.Goals as goal
-use Rattle.placing.proofs.choose.Goals.{else-loop-i-test, then-loop-i-test+then-is_fit}
 
 pub loop-i-init : goal.loop-i-init
-loop-i-init c = refl
-
-pub loop-i-smaller : goal.loop-i-smaller
-loop-i-smaller c = next_falls _ _ _ _ c.next_block-i.ensures c.loop-i-test.true
+loop-i-init c = rw (c.into_iter-i-iterator.ensures.into_iter_gives, c.new-i-items.ensures) (tt, tt, refl, starts_rising _ _ _, refl)
 
 pub loop-i-preserved : goal.loop-i-preserved
 loop-i-preserved c =
-    c.loop-i.invariant
-    ∙ first_more _ _ _ _ c.loop-i-test.true (sym c.is_fit.ensures ∙ c.if-is_fit.false)
-    ∙ rw c.next_block-i.ensures
+    let v = c.loop-i.invariant in
+    let z = c.in-Some.ensures.steps in
+    let r = rw z at v.3 in
+    (tt, tt, v.2, rising_weaker _ _ _ _ (omega arith) r.1.1, v.4 ∙ rw (z, sym c.is_fit.ensures ∙ c.if-is_fit.false))
 
-pub returns-then-i-e : goal.returns-then-i-e
+pub returns-in-None : goal.returns-in-None
 unfolding chosen
-returns-then-i-e c =
-    sym
-    (c.loop-i.invariant
-    ∙
-    elim c.loop-i-test.branch [
-      | else-loop-i-test w ↦ absurd (omega arith)
-      | then-loop-i-test+then-is_fit w ↦ first_here _ _ _ _ w.loop-i-test.true (sym w.is_fit.ensures ∙ w.if-is_fit.true)
-    ])
+returns-in-None c = let v = c.loop-i.invariant in v.2 ∙ sym (v.4 ∙ rw c.in-None.ensures.steps.0)
 
-pub returns : goal.returns
+pub returns-then-is_fit : goal.returns-then-is_fit
 unfolding chosen
-returns c = sym (c.loop-i.invariant ∙ first_end _ _ _ _ c.if-i-e.false)
+returns-then-is_fit c = sym (c.loop-i.invariant.4 ∙ rw (c.in-Some.ensures.steps, sym c.is_fit.ensures ∙ c.if-is_fit.true))
