@@ -41,7 +41,7 @@ fn is_nearer(p: &[u32], set: u64, tag: u32, n: u32, k: usize) -> bool
     masks::is_member(set, k)
 }
 
-// The number of the member of the set with the next tag after `tag`, or 0.
+// The number of the member of the set with the next tag after `tag`, or 0, which stands for none here as it does in D1: so says `next_member`.
 pub fn next_member(p: &[u32], set: u64, tag: u32) -> u32
     ensures { result ≡ next_member p.now set tag }
 {

@@ -56,23 +56,16 @@ pub fn round_up(n: u64) -> u64
 }
 
 // The block at i is whole within an area that ends at e.
+#[tactic(auto, unfolding(crate::specs::Walk::good))]
 pub fn is_good(p: &[u32], i: usize, e: usize) -> bool
     ensures { result ≡ good p.now i e }
 {
     let size = word(p, i) as usize;
-    if size % 16 != 0 {
-        return false;
-    }
-    if size < 16 {
-        return false;
-    }
-    if e <= i {
-        return false;
-    }
-    size / 4 <= e - i
+    size % 16 == 0 && 16 <= size && i < e && size / 4 <= e - i
 }
 
 // Where the next block starts, e for a block that isn't whole.
+#[tactic(auto, using(crate::proofs::Walk::is_good, crate::proofs::Walk::next_good, crate::proofs::Walk::next_bad))]
 pub fn next_block(p: &[u32], i: usize, e: usize) -> usize
     ensures { result ≡ next p.now i e }
 {

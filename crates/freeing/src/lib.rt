@@ -23,6 +23,7 @@ pub fn is_named(set: u64, owner: u32) -> bool
 }
 
 // The block at i goes.
+#[tactic(auto, unfolding(crate::specs::Sweep::goes))]
 pub fn is_going(p: &[u32], set: u64, block: usize, i: usize) -> bool
     requires { i < greatest_size }
     ensures { result ≡ goes p.now set block i }
@@ -31,6 +32,7 @@ pub fn is_going(p: &[u32], set: u64, block: usize, i: usize) -> bool
 }
 
 // The block at i is free if it goes.
+#[tactic(auto, unfolding(crate::specs::Sweep::freed))]
 pub fn free_block(p: &mut [u32], set: u64, block: usize, i: usize)
     requires { i < greatest_size }
     ensures { p.new ≡ freed p.old set block i }
@@ -42,6 +44,7 @@ pub fn free_block(p: &mut [u32], set: u64, block: usize, i: usize)
 }
 
 // The free block at r reaches to the end of the block at i, whose header is four zeros.
+#[tactic(auto, unfolding(crate::specs::Sweep::absorbed), using(blocks::proofs::Walk::next_up))]
 pub fn absorb_block(p: &mut [u32], e: usize, r: usize, i: usize)
     requires { (e ≤ greatest_size) × ((r < i) × (i < e)) }
     ensures { p.new ≡ absorbed p.old e r i }
@@ -52,6 +55,7 @@ pub fn absorb_block(p: &mut [u32], e: usize, r: usize, i: usize)
 }
 
 // The block at i has joined the run of free blocks from r up to it, if it is free and there is one.
+#[tactic(auto, unfolding(crate::specs::Sweep::joined))]
 pub fn join_block(p: &mut [u32], e: usize, r: usize, i: usize)
     requires { (e ≤ greatest_size) × (i < e) }
     ensures { p.new ≡ joined p.old e r i }
@@ -62,6 +66,7 @@ pub fn join_block(p: &mut [u32], e: usize, r: usize, i: usize)
 }
 
 // Where the run of free blocks that ends with the block at i starts, e where that block is in use.
+#[tactic(auto, unfolding(crate::specs::Sweep::run))]
 pub fn run_start(p: &[u32], e: usize, r: usize, i: usize) -> usize
     requires { i < greatest_size }
     ensures { result ≡ run p.now e r i }

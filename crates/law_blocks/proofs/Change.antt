@@ -1,7 +1,7 @@
 -- A change to the blocks of one area: what it is, and what it keeps of both areas.
-use Prim.Native.Nat.{ℕ, ◌+◌, ◌-◌, ◌≤◌, ◌<◌}
+use Prim.Native.Nat.{ℕ, ◌+◌, ◌≤◌, ◌<◌}
 use mathlib.Core.Path.{◌≡◌, refl, sym, ap, ◌∙◌, subst}
-use mathlib.Core.Bool.{Bool, false}
+use mathlib.Core.Bool.{false}
 use mathlib.Core.Logic.{⊎_elim, ◌⊎◌, inl, inr}
 use mathlib.Core.List.{List}
 use native.Mathlib.Omega.{arith}
@@ -15,12 +15,11 @@ use Rattle.picture.specs.declared.Area.{Area}
 use Rattle.picture.specs.declared.Area.TheVariants.{Heap, Transient}
 use Rattle.blocks.specs.Header.{kind, kind_of, free}
 use Rattle.blocks.specs.Walk.{good, next, starts, blocks}
-use Rattle.blocks.proofs.Walk.{Good, next_up}
+use Rattle.blocks.proofs.Walk.{next_up}
 use Rattle.blocks.proofs.Starts.{starts_in, next_same}
 use Rattle.headers.specs.Header.{Outside}
 use Rattle.law_areas.specs.Area.{Apart, Blank}
 use Rattle.law_areas.specs.Area as area
-use Rattle.law_areas.proofs.Row.{Block}
 use Rattle.sound_matching.specs.Match.{area_of}
 use Rattle.sound_facts.proofs.Sound.{Tiled}
 use Rattle.sound_facts.proofs.Same.{Lives, AreaSame, blocks_same, tiled_same, kind_same, holder_same, starts_between}

@@ -1,11 +1,9 @@
 -- A block given back is a change by which that block goes and none comes.
-use Prim.Native.Nat.{ℕ, ◌-◌}
+use Prim.Native.Nat.{ℕ}
 use mathlib.Core.Path.{◌≡◌}
-use mathlib.Core.Bool.{Bool}
-use mathlib.Core.Logic.{⊎_elim, ◌⊎◌, inl, inr}
+use mathlib.Core.Logic.{⊎_elim, inl, inr}
 use mathlib.Core.List.{List}
 use native.Mathlib.Omega.{arith}
-use Rattle.words.specs.Each.{In}
 use Rattle.picture.specs.Layout.{heap_word, size_word, from, upto}
 use Rattle.picture.specs.declared.Area.{Area}
 use Rattle.headers.proofs.Header.{same_or_not}
@@ -16,7 +14,6 @@ use Rattle.law_freeing.proofs.Alone.{no_other_block_goes}
 use Rattle.sound_facts.proofs.Sound.{Tiled}
 use Rattle.rooms.proofs.Sizes.{Lies}
 use Rattle.law_blocks.proofs.Tables.{TablesSame}
-use Rattle.law_blocks.proofs.Moved.{Kept}
 use Rattle.law_blocks.proofs.Change.{Change, from_same, upto_same, facts_blank}
 use Rattle.law_blocks.proofs.Placing.{None, Only}
 

@@ -1,7 +1,7 @@
 -- Every block in use other than those placed or given back keeps every longword, header and room.
-use Prim.Native.Nat.{ℕ, ◌+◌, ◌-◌, ◌/◌, ◌≤◌, ◌<◌}
+use Prim.Native.Nat.{ℕ, ◌+◌, ◌/◌, ◌≤◌, ◌<◌}
 use mathlib.Core.Path.{◌≡◌, refl, sym, subst}
-use mathlib.Core.Bool.{Bool, false}
+use mathlib.Core.Bool.{false}
 use mathlib.Core.Logic.{⊎_elim, ◌⊎◌, inl, inr}
 use mathlib.Core.List.{List}
 use native.Mathlib.Omega.{arith}
@@ -13,7 +13,7 @@ use Rattle.blocks.specs.Header.{size, free}
 use Rattle.blocks.specs.Walk.{starts, blocks}
 use Rattle.blocks.proofs.Starts.{starts_in}
 use Rattle.sound_facts.proofs.Sound.{Tiled}
-use Rattle.sound_facts.proofs.Same.{AreaSame, blocks_same, within}
+use Rattle.sound_facts.proofs.Same.{blocks_same, within}
 use Rattle.rooms.proofs.Sizes.{Lies}
 use Rattle.law_blocks.proofs.Moved.{Kept}
 use Rattle.law_blocks.proofs.Change.{Change, here, other_same, two_areas}

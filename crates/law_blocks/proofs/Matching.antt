@@ -1,7 +1,7 @@
 -- Entries and blocks still match one to one where old pairs stay as they were and each new entry has a new block.
 use Prim.Native.Nat.{ℕ, ◌<◌}
 use mathlib.Core.Path.{◌≡◌, sym, ◌∙◌, subst}
-use mathlib.Core.Bool.{Bool, true}
+use mathlib.Core.Bool.{true}
 use mathlib.Core.Logic.{⊎_elim, ◌⊎◌}
 use mathlib.Core.List.{List}
 use native.Mathlib.Omega.{arith}

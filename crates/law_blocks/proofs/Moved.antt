@@ -1,5 +1,5 @@
 -- An area in which blocks were placed or given back: the blocks in use are old ones with every longword, or new ones.
-use Prim.Native.Nat.{ℕ, ◌+◌, ◌-◌, ◌/◌, ◌≤◌, ◌<◌}
+use Prim.Native.Nat.{ℕ, ◌+◌, ◌/◌, ◌≤◌, ◌<◌}
 use mathlib.Core.Path.{◌≡◌, refl, sym, ◌∙◌, subst}
 use mathlib.Core.Bool.{Bool, true, false}
 use mathlib.Core.Logic.{⊎_elim, ◌⊎◌, inl, inr}
@@ -10,12 +10,12 @@ use Rattle.words.specs.Words.{word}
 use Rattle.words.specs.Each.{In}
 use Rattle.picture.specs.Layout.{nobody, from, upto}
 use Rattle.picture.specs.Numbers.{live}
-use Rattle.picture.specs.declared.Table.TheVariants.{Jobs, Channels}
+use Rattle.picture.specs.declared.Table.TheVariants.{Jobs}
 use Rattle.picture.specs.declared.Area.{Area}
 use Rattle.picture.specs.declared.Area.TheVariants.{Heap, Transient}
 use Rattle.blocks.specs.Header.{size, kind, queue_kind, job_kind, free, holder, start, queue_length, queue_oldest, queue_count, queue_zero}
 use Rattle.blocks.specs.Walk.{starts, blocks}
-use Rattle.blocks.proofs.Walk.{Good, is_good}
+use Rattle.blocks.proofs.Walk.{is_good}
 use Rattle.law_areas.specs.Area.{Apart, Blank}
 use Rattle.law_areas.specs.Area as area
 use Rattle.sound_facts.proofs.Sound.{Queue, Fits, Tiled}

@@ -1,8 +1,8 @@
 -- A block placed in an area is a change by which one block comes and none goes.
-use Prim.Native.Nat.{ℕ, ◌+◌, ◌-◌, ◌/◌, ◌%◌, ◌≤◌, ◌<◌}
+use Prim.Native.Nat.{ℕ, ◌+◌, ◌/◌, ◌%◌, ◌≤◌, ◌<◌}
 use mathlib.Core.Path.{◌≡◌, sym, ap, ◌∙◌}
-use mathlib.Core.Bool.{Bool, true, false}
-use mathlib.Core.Logic.{⊎_elim, ◌⊎◌, inl, inr}
+use mathlib.Core.Bool.{true, false}
+use mathlib.Core.Logic.{⊎_elim, inl, inr}
 use mathlib.Core.List.{List}
 use native.Mathlib.Omega.{arith}
 use borrow.Author.Tests.{eqb-false}
@@ -12,10 +12,8 @@ use Rattle.picture.specs.Layout.{heap_word, size_word, from, upto}
 use Rattle.picture.specs.declared.Area.{Area}
 use Rattle.blocks.specs.Header.{size, kind, free}
 use Rattle.blocks.specs.Walk.{blocks}
-use Rattle.headers.specs.Header.{Outside}
-use Rattle.law_areas.proofs.Row.{Block, block_of}
+use Rattle.law_areas.proofs.Row.{block_of}
 use Rattle.placing.specs.Place.{placed}
-use Rattle.placing.proofs.Chosen.{Chosen}
 use Rattle.law_placing.specs.Placed.{Placed}
 use Rattle.law_placing.proofs.Placed.{placed_keeps_the_area}
 use Rattle.sound_facts.proofs.Sound.{Tiled}

@@ -1,21 +1,19 @@
 -- A picture whose longwords before the heap are the same keeps what soundness says of them.
 use Prim.Native.Nat.{ℕ, ◌+◌, ◌<◌}
 use mathlib.Core.Path.{◌≡◌, refl, sym, ◌∙◌}
-use mathlib.Core.Bool.{Bool, true}
 use mathlib.Core.List.{List}
 use native.Mathlib.Omega.{arith}
 use lib.ListN.{length}
 use Rattle.words.specs.Words.{word}
 use Rattle.picture.specs.Layout.{current_word, last_word, heap_base, positions, width}
-use Rattle.picture.specs.Records.{slot, field, number, owner, base, used, base_field, number_field, owner_field, ending_field, members}
+use Rattle.picture.specs.Records.{slot, field, number, owner, base, base_field, number_field, owner_field, ending_field, members}
 use Rattle.picture.specs.Numbers.{live}
 use Rattle.picture.specs.declared.Table.{Table}
 use Rattle.picture.specs.declared.Table.TheVariants.{Jobs, Channels}
 use Rattle.picture.proofs.Records.{slot_within, used_below, shared}
-use Rattle.picture.proofs.Numbers.{Live, live_is}
 use Rattle.picture.proofs.Members.{holds_low, members_same}
-use Rattle.sound_facts.proofs.Sound.{Sizes, Owned, Entries, Jobs_fine, Channels_fine, Current, Sound}
-use Rattle.sound_facts.proofs.Same.{used_same, live_same, Lives, EntriesSame, entries_same}
+use Rattle.sound_facts.proofs.Sound.{Sizes, Entries, Jobs_fine, Channels_fine, Current}
+use Rattle.sound_facts.proofs.Same.{used_same, live_same, Lives, entries_same}
 use Rattle.sound_facts.proofs.Ages.{Ages, ages_same}
 use Rattle.sound_facts.proofs.Jobs.{JobsSame, jobs_kept, current_kept}
 use Rattle.sound_facts.proofs.Sizes.{Fixed, sizes_kept}

@@ -2,24 +2,21 @@
 -- if what comes is fine and neither what comes nor what goes is a table's block.
 use Prim.Native.Nat.{ℕ, ◌<◌}
 use mathlib.Core.Path.{◌≡◌, sym, ◌∙◌}
-use mathlib.Core.Bool.{Bool, true}
-use mathlib.Core.Logic.{⊎_elim, ◌⊎◌, inl}
+use mathlib.Core.Bool.{true}
+use mathlib.Core.Logic.{⊎_elim, inl}
 use mathlib.Core.List.{List}
-use Rattle.words.specs.Each.{In}
 use Rattle.picture.specs.Layout.{positions}
 use Rattle.picture.specs.declared.Table.{Table}
 use Rattle.picture.specs.declared.Area.{Area}
 use Rattle.blocks.specs.Header.{kind, kind_of}
 use Rattle.sound_matching.specs.Match.{area_of, has_block}
-use Rattle.sound_matching.proofs.Counts.{Matches}
-use Rattle.sound_matching.proofs.Matched.{Matched}
 use Rattle.sound_facts.proofs.Sound.{Sound}
 use Rattle.sound_facts.proofs.Same.{has_block_same}
 use Rattle.rooms.proofs.Sizes.{Lies}
 use Rattle.law_blocks.proofs.Tables.{TablesSame, mask_same, base_same, owner_same, lives_on, sizes_same, jobs_same, channels_same, current_same}
 use Rattle.law_blocks.proofs.Moved.{Fine}
 use Rattle.law_blocks.proofs.Change.{Change, change_tiled, change_standing, change_homes}
-use Rattle.law_blocks.proofs.Matching.{Still, Stands, Rematched, still_matched}
+use Rattle.law_blocks.proofs.Matching.{Still, Rematched, still_matched}
 
 -- no entry and block are new
 abbrev NoPair : ℕ → ℕ → Type 0

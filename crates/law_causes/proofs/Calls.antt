@@ -29,7 +29,8 @@ use Rattle.law_owners.proofs.Members.{in_tree_says, in_tree_has}
 use Rattle.law_owners.proofs.Owners.{owners_in_order}
 use Rattle.names.specs.Names.{key_of, good, name_check, byte, pipe, digit, worth, numbered, named}
 use Rattle.names.specs.Names.{number as pipe-number}
-use Rattle.names.specs.declared.Name.TheVariants.{Pipe, Foreign, Unnumbered, Bare}
+use Rattle.std.proofs.Common.{Ok, Err}
+use Rattle.names.specs.declared.NameFault.TheVariants.{Foreign, Unnumbered, Bare}
 use Rattle.names.proofs.Digits.{digit_is}
 use Rattle.jobs.specs.Calls.{suspend, release, activate, set_priority}
 use Rattle.asking.specs.Ask.{ask}
@@ -54,7 +55,7 @@ unfolding named numbered good key_of name_checks
 name_verdict s l = go (pipe s) (eqb (length s) 4) (eqb (byte s 4) 95) (pipe-number (drop 5 s)) (worth 0 (drop 5 s))
   where
     go : (a b c n : Bool) (w : ℕ) →
-        cond (good (cond a (cond b Bare (cond c (cond n (Pipe w) Unnumbered) Foreign)) Foreign)) (verdict l) (key_of (cond a (cond b Bare (cond c (cond n (Pipe w) Unnumbered) Foreign)) Foreign))
+        cond (good (cond a (cond b (Err Bare) (cond c (cond n (Ok w) (Err Unnumbered)) (Err Foreign))) (Err Foreign))) (verdict l) (key_of (cond a (cond b (Err Bare) (cond c (cond n (Ok w) (Err Unnumbered)) (Err Foreign))) (Err Foreign)))
         ≡ cond a (cond (not b) (cond c (cond n (verdict l) bad_name) not_found) bad_parameter) not_found
     go true true c n w = refl
     go true false true true w = refl

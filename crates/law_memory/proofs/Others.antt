@@ -1,7 +1,7 @@
 -- The tables stay, and every block in use other than the one taken or given back keeps every longword; the bytes taken and given back are exactly the block's.
-use Prim.Native.Nat.{ℕ, ◌+◌, ◌-◌}
+use Prim.Native.Nat.{ℕ, ◌+◌}
 use mathlib.Core.Path.{◌≡◌, ap, ◌∙◌}
-use mathlib.Core.Bool.{Bool, true, false}
+use mathlib.Core.Bool.{true, false}
 use mathlib.Core.Logic.{⊎_elim, ◌⊎◌, inr}
 use mathlib.Core.List.{List}
 use Rattle.words.specs.Each.{In}
@@ -14,7 +14,6 @@ use Rattle.blocks.specs.Walk.{blocks}
 use Rattle.law_areas.specs.Area.{free_bytes}
 use Rattle.law_freeing.proofs.Alone.{one_block_is_given_back}
 use Rattle.sound.specs.Sound.{sound}
-use Rattle.sound_facts.proofs.Sound.{Sound}
 use Rattle.sound_facts.proofs.View.{view}
 use Rattle.rooms.specs.Room.{spot}
 use Rattle.rooms.proofs.Sizes.{areas_lie_in_a_sound_picture}

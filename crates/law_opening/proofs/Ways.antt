@@ -18,8 +18,9 @@ use Rattle.rooms.proofs.Room.{has_room, there_is_room_where_the_check_passes, ro
 use Rattle.law_blocks.proofs.Cases.{where_done}
 use Rattle.entering.specs.Entry.{has_position, has_tag, next_number}
 use Rattle.names.specs.Names.{key_of, good, number_in, named}
-use Rattle.names.specs.declared.Name.{Name}
-use Rattle.names.specs.declared.Name.TheVariants.{Pipe, Foreign, Unnumbered, Bare}
+use Rattle.std.proofs.Common.{Result, Ok, Err}
+use Rattle.names.specs.declared.NameFault.{NameFault}
+use Rattle.names.specs.declared.NameFault.TheVariants.{Foreign, Unnumbered, Bare}
 use Rattle.opening.specs.Effects.{queue_bytes, opened, channel_registers}
 use Rattle.opening.specs.Calls.{open_channel}
 
@@ -32,12 +33,12 @@ pub record Checked (p d s : List ℕ) : Type 0 where
   pub room : has_room p Heap (queue_bytes (number_in (named s))) ≡ true
 
 -- a bad name's key is that of a refusal
-a_bad_name_is_refused : (n : Name) → good n ≡ false → key_of n ≡ done → ⊥
+a_bad_name_is_refused : (n : Result ℕ NameFault) → good n ≡ false → key_of n ≡ done → ⊥
 unfolding good key_of
-a_bad_name_is_refused (Pipe n) f = λ e. absurd (false_true (sym f))
-a_bad_name_is_refused Foreign f = not_found_refuses
-a_bad_name_is_refused Unnumbered f = bad_name_refuses
-a_bad_name_is_refused Bare f = bad_parameter_refuses
+a_bad_name_is_refused (Ok n) f = λ e. absurd (false_true (sym f))
+a_bad_name_is_refused (Err Foreign) f = not_found_refuses
+a_bad_name_is_refused (Err Unnumbered) f = bad_name_refuses
+a_bad_name_is_refused (Err Bare) f = bad_parameter_refuses
 
 -- what opening does where its checks pass
 module _ (P : Outcome → Type 0) (p d s : List ℕ) where

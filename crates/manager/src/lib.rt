@@ -1,4 +1,4 @@
-// The manager's whole public face: one door for every trap call, a fresh picture, the pick, the tick, the report of a tree, and the text of an error.
+// The manager's whole public face (its keys are numbers, as docs/DECISIONS.md 27 and hosts in C want them): one door for every trap call, a fresh picture, the pick, the tick, the report of a tree, and the text of an error.
 #![tactic(auto)]
 
 use picture::Refusal;

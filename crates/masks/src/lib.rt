@@ -14,6 +14,7 @@ pub fn is_member(set: u64, k: usize) -> bool
 }
 
 // The set with the member k.
+#[tactic(auto, using(crate::proofs::Masks::one_shifted, crate::proofs::Masks::with_bit_is))]
 pub fn with_member(set: u64, k: usize) -> u64
     requires { k < set_width }
     ensures { result ≡ with_bit set k }
@@ -22,6 +23,7 @@ pub fn with_member(set: u64, k: usize) -> u64
 }
 
 // The set without the member k.
+#[tactic(auto, using(crate::proofs::Masks::one_shifted, crate::proofs::Masks::without_bit_is))]
 pub fn without_member(set: u64, k: usize) -> u64
     requires { k < set_width }
     ensures { result ≡ without_bit set k }
@@ -53,6 +55,7 @@ pub fn positions_passing<F: Fn(usize) -> bool>(count: usize, passes: F) -> u64
 }
 
 // The members of the set that aren't in the other.
+#[tactic(auto, unfolding(crate::specs::Masks::without))]
 pub fn difference(set: u64, other: u64) -> u64
     ensures { (result ≡ without set other) × (result ≤ set) }
 {
@@ -60,6 +63,7 @@ pub fn difference(set: u64, other: u64) -> u64
 }
 
 // The lowest position that isn't a member, 64 where all are.
+#[tactic(auto, using(crate::proofs::Lowest::complement))]
 pub fn lowest_clear(set: u64) -> usize
     ensures { result ≡ lowest_clear set_width set }
 {

@@ -281,6 +281,7 @@ pub fn timeout_of(p: &[u32], k: usize) -> i32
 }
 
 // The set of the table's positions in use, of a picture that has its tables.
+#[tactic(auto, unfolding(crate::specs::Records::members))]
 pub fn members_at(p: &[u32], t: Table) -> u64
     requires { heap_base ≤ length p.now }
     ensures { (result ≡ members p.now t) × (result < 2 ^ positions t) }
@@ -289,6 +290,7 @@ pub fn members_at(p: &[u32], t: Table) -> u64
 }
 
 // Position k is one of them: one bit of one longword is tested.
+#[tactic(auto, unfolding(crate::specs::Records::members), using(crate::proofs::Records::used_is))]
 pub fn is_member_at(p: &[u32], t: Table, k: usize) -> bool
     requires { (heap_base ≤ length p.now) × (k < positions t) }
     ensures { result ≡ used p.now t k }
@@ -297,6 +299,7 @@ pub fn is_member_at(p: &[u32], t: Table, k: usize) -> bool
 }
 
 // Stores the set of the table's positions in use.
+#[tactic(auto, unfolding(crate::specs::Records::with_members))]
 pub fn put_members(p: &mut [u32], t: Table, set: u64)
     requires { (heap_base ≤ length p.old) × (set < 2 ^ positions t) }
     ensures { p.new ≡ with_members p.old t set }
@@ -306,6 +309,7 @@ pub fn put_members(p: &mut [u32], t: Table, set: u64)
 }
 
 // Position k is in use.
+#[tactic(auto, unfolding(crate::specs::Records::members), using(crate::proofs::Records::used_past, crate::proofs::Records::used_is))]
 pub fn is_used(p: &[u32], t: Table, k: usize) -> bool
     ensures { result ≡ used p.now t k }
 {
@@ -316,6 +320,7 @@ pub fn is_used(p: &[u32], t: Table, k: usize) -> bool
 }
 
 // The job at position k is ready.
+#[tactic(auto, unfolding(crate::specs::Records::ready))]
 pub fn is_ready(p: &[u32], k: usize) -> bool
     requires { k < positions Jobs }
     ensures { result ≡ ready p.now k }
@@ -324,6 +329,7 @@ pub fn is_ready(p: &[u32], k: usize) -> bool
 }
 
 // The job at position k is active.
+#[tactic(auto, unfolding(crate::specs::Records::active))]
 pub fn is_active(p: &[u32], k: usize) -> bool
     requires { k < positions Jobs }
     ensures { result ≡ active p.now k }
@@ -354,6 +360,7 @@ pub fn number_of(tag: u32, position: usize) -> u32
 }
 
 // The number n names a live entry of the table.
+#[tactic(auto, unfolding(crate::specs::Numbers::live), using(crate::proofs::Records::used_below, crate::proofs::Records::shared))]
 pub fn is_live(p: &[u32], t: Table, n: u32) -> bool
     ensures { result ≡ live p.now t n }
 {
@@ -365,6 +372,7 @@ pub fn is_live(p: &[u32], t: Table, n: u32) -> bool
 }
 
 // The position of the entry that the number names.
+#[tactic(auto, using(crate::proofs::Numbers::entry_live, crate::proofs::Numbers::entry_dead))]
 pub fn entry_at<N: Number>(p: &[u32], number: N) -> Option<usize>
     ensures { result ≡ entry_at p.now N.TABLE (N.value number) }
 {
@@ -376,6 +384,8 @@ pub fn entry_at<N: Number>(p: &[u32], number: N) -> Option<usize>
 }
 
 // The lowest position that is free, or the number of positions for none: by the mask alone, in as many steps however many are in use.
+// That number is no Option, since the project asks for this form (docs/DECISIONS.md 27).
+#[tactic(auto, unfolding(crate::specs::Numbers::free_position), using(crate::proofs::Members::positions_within, masks::proofs::Lowest::lowest_clear_is, masks::proofs::Lowest::lowest_clear_within))]
 pub fn free_position(p: &[u32], t: Table) -> usize
     requires { heap_base ≤ length p.now }
     ensures { (result ≡ free_position p.now t) × (result ≤ positions t) }

@@ -10,7 +10,7 @@ use Rattle.words.specs.Each.{every, one, count, all, total, In}
 use Rattle.words.proofs.Tests.{both, unless, false_true}
 use Rattle.words.proofs.Each.{every_at, every_by, all_at, all_by}
 use Rattle.picture.specs.Layout.{positions, nobody, from, upto}
-use Rattle.picture.specs.Records.{owner, used}
+use Rattle.picture.specs.Records.{used}
 use Rattle.picture.specs.Numbers.{live}
 use Rattle.picture.specs.declared.Table.{Table}
 use Rattle.picture.specs.declared.Table.TheVariants.{Jobs, Channels}
@@ -24,7 +24,7 @@ use Rattle.sound_matching.proofs.Matched.{Matched, matched}
 use Rattle.sound_matching.proofs.Agreeing.{agreed_some, some_agreed}
 use Rattle.sound_records.specs.Rules.{may_be_unowned, owner_live}
 use Rattle.sound_areas.specs.Rules.{holder_live}
-use Rattle.sound_matching.specs.declared.Walked.TheVariants.{Broken, Counted}
+use Rattle.std.specs.Prelude.{Some, None}
 use Rattle.sound_entries.specs.Entries.{record_fine, entries_walked}
 use Rattle.sound_entries.proofs.Rules.{placed_has_block}
 use Rattle.sound_walks.specs.Walks.{block_fine, blocks_walked}
@@ -50,7 +50,7 @@ module _ (p : List ℕ) (t : Table) where
   half_is h = go (every (record_fine p t) (positions t)) refl (all (block_fine p t (upto p (area_of t))) homes) refl h
     where
       go : (a : Bool) → every (record_fine p t) (positions t) ≡ a → (b : Bool) → all (block_fine p t (upto p (area_of t))) homes ≡ b
-          → as_many (cond a (Counted (count (has_block p t) (positions t))) Broken) (cond b (Counted found) Broken) ≡ true → Half
+          → as_many (cond a (Some (count (has_block p t) (positions t))) None) (cond b (Some found) None) ≡ true → Half
       go true u true v g = record { records = every_at (record_fine p t) (positions t) u; fine = all_at (block_fine p t (upto p (area_of t))) homes v; counts = sym (eqb-true _ _ g) }
       go true u false v g = absurd (false_true g)
       go false u b v g = absurd (false_true g)

@@ -8,7 +8,6 @@ ghost use Rattle.sound.specs.Sound.{sound};
 ghost use Rattle.sound.specs.Test.{half_fine};
 
 use picture::{Area, Table};
-use sound_matching::Walked;
 
 // The area where a table's blocks lie.
 pub fn area_of(t: Table) -> Area
@@ -26,19 +25,13 @@ pub fn is_half_fine(p: &[u32], t: Table) -> bool
     ensures { result ≡ half_fine p.now t }
 {
     let mut noted = [0u8; 64];
-    let walked = sound_entries::walk_entries(p, t, &mut noted);
-    let Walked::Counted(n) = walked else {
+    let Some(n) = sound_entries::walk_entries(p, t, &mut noted) else {
         return false;
     };
     let a = area_of(t);
-    let found = sound_walks::walk_blocks(
-        p,
-        t,
-        picture::area_from(p, a),
-        picture::area_upto(p, a),
-        &noted,
-    );
-    let Walked::Counted(m) = found else {
+    let b = picture::area_from(p, a);
+    let e = picture::area_upto(p, a);
+    let Some(m) = sound_walks::walk_blocks(p, t, b, e, &noted) else {
         return false;
     };
     n == m

@@ -1,6 +1,6 @@
 -- Needs no belief: the test of which it is a part is equal to `sound`, by `tested_is` (sound/proofs/Fused.antt).
 -- What the test for soundness computes of a table: every record keeps its rules, and how many entries have a block.
-use Rattle.std.specs.Prelude.{ℕ, ◌+◌, ◌-◌, ◌%◌, Bool, true, ◌&&◌, cond, List, leb, eqb, get_or, set}
+use Rattle.std.specs.Prelude.{ℕ, ◌+◌, ◌-◌, ◌%◌, Bool, true, ◌&&◌, cond, List, Option, Some, None, leb, ltb, get_or, set}
 use Rattle.words.specs.Each.{every, count}
 use Rattle.picture.specs.Layout.{positions}
 use Rattle.picture.specs.Records.{number, all_zero, used}
@@ -8,8 +8,8 @@ use Rattle.picture.specs.Numbers.{tag}
 use Rattle.picture.specs.declared.Table.{Table}
 use Rattle.picture.specs.declared.Table.TheVariants.{Jobs, Channels}
 use Rattle.sound_matching.specs.Match.{first, has_block}
-use Rattle.sound_matching.specs.declared.Walked.{Walked}
-use Rattle.sound_matching.specs.declared.Walked.TheVariants.{Broken, Counted}
+use Rattle.sound_entries.specs.declared.Note.{Note}
+use Rattle.sound_entries.specs.declared.Note.TheVariants.{Nothing, At, Several}
 use Rattle.sound_records.specs.Rules.{zero_base, priority_within, accumulated_within, timeout_within, ends_in_one, positioned, zero_exists, tag_within, tags_differ, tag_once, owner_live, owner_older, zero_unowned, tag_given, wait_allowed, idle_zero}
 
 -- the rules that a record of either table keeps
@@ -31,24 +31,28 @@ unfoldable pub blank_fine : List ℕ → Table → ℕ → Bool
 blank_fine p t k = leb (first t) k && all_zero p t k
 
 -- the note of lower positions under the last six bits of the tag at k
-abbrev pub note_of : List ℕ → Table → ℕ → List ℕ → ℕ
-note_of p t k seen = get_or seen (tag (number p t k) % 64) 0
+abbrev pub note_of : List ℕ → Table → ℕ → List Note → Note
+note_of p t k seen = get_or seen (tag (number p t k) % 64) Nothing
 
--- what a note says of the tag at k: 0 that no lower position in use has its last six bits, j + 1 that j alone has them, and more than k that several may
-unfoldable pub told_once : List ℕ → Table → ℕ → ℕ → Bool
-told_once p t k note = cond (eqb note 0) true (cond (leb note k) (tags_differ p t k (note - 1)) (every (tags_differ p t k) k))
+-- what a note says of the tag at k: that no lower position in use has its last six bits, that j alone has them, or that several may
+unfoldable pub told_once : List ℕ → Table → ℕ → Note → Bool
+told_once p t k Nothing = true
+told_once p t k (At j) = cond (ltb j k) (tags_differ p t k j) (every (tags_differ p t k) k)
+told_once p t k Several = every (tags_differ p t k) k
 
-abbrev pub several : ℕ
-several = 255
+-- a note once position k has its bits too
+abbrev pub noted_too : Note → ℕ → Note
+noted_too Nothing k = At k
+noted_too (At j) k = Several
+noted_too Several k = Several
 
--- the notes once position k has its bits too
-unfoldable pub with_note : List ℕ → Table → ℕ → List ℕ → List ℕ
-with_note p t k seen = set seen (tag (number p t k) % 64) (cond (eqb (note_of p t k seen) 0) (k + 1) several)
+unfoldable pub with_note : List ℕ → Table → ℕ → List Note → List Note
+with_note p t k seen = set seen (tag (number p t k) % 64) (noted_too (note_of p t k seen) k)
 
 -- the rules of a record
 unfoldable pub record_fine : List ℕ → Table → ℕ → Bool
 record_fine p t k = cond (used p t k) (live_fine p t k && tag_once p t k) (blank_fine p t k)
 
--- a walk over the table: broken, or how many entries have a block
-unfoldable pub entries_walked : List ℕ → Table → Walked
-entries_walked p t = cond (every (record_fine p t) (positions t)) (Counted (count (has_block p t) (positions t))) Broken
+-- a walk over the table: none where one of them breaks a rule, or how many entries have a block
+unfoldable pub entries_walked : List ℕ → Table → Option ℕ
+entries_walked p t = cond (every (record_fine p t) (positions t)) (Some (count (has_block p t) (positions t))) None

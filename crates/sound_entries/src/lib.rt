@@ -9,26 +9,25 @@ ghost use Rattle.sound_entries.specs.Entries.{note_of, told_once, with_note};
 ghost use Rattle.sound_entries.specs.Entries.{entry_fine, zero_fine, live_fine, blank_fine, entries_walked};
 
 use picture::Table;
-use sound_matching::Walked;
 
-// The note that several positions have the same last six bits of their tags.
-const SEVERAL: u8 = 255;
+// What lower positions in use left under the last six bits of a tag: nothing where none has them, the position that has, or that several have.
+#[derive(Clone, Copy)]
+pub enum Note {
+    Nothing,
+    At(u8),
+    Several,
+}
 
 // The rules that a record in use of either table keeps.
+#[tactic(auto, unfolding(crate::specs::Entries::entry_fine))]
 pub fn is_entry_fine(p: &[u32], t: Table, k: usize) -> bool
     requires { (heap_base ≤ length p.now) × ((k < positions t) × (used p.now t k ≡ true)) }
     ensures { result ≡ entry_fine p.now t k }
 {
-    if !sound_records::is_positioned(p, t, k) {
-        return false;
-    }
-    if !sound_records::tag_within(p, t, k) {
-        return false;
-    }
-    if !sound_records::tag_given(p, t, k) {
-        return false;
-    }
-    sound_records::owner_live(p, t, k)
+    sound_records::is_positioned(p, t, k)
+        && sound_records::tag_within(p, t, k)
+        && sound_records::tag_given(p, t, k)
+        && sound_records::owner_live(p, t, k)
 }
 
 // The rules of job 0; any other job keeps them.
@@ -44,43 +43,28 @@ pub fn is_zero_fine(p: &[u32], k: usize) -> bool
 }
 
 // The rules of a job in use.
+#[tactic(auto, unfolding(crate::specs::Entries::live_fine))]
 pub fn is_job_fine(p: &[u32], k: usize) -> bool
     requires { (heap_base ≤ length p.now) × ((k < positions Jobs) × (used p.now Jobs k ≡ true)) }
     ensures { result ≡ live_fine p.now Jobs k }
 {
-    if !is_entry_fine(p, Table::Jobs, k) {
-        return false;
-    }
-    if !is_zero_fine(p, k) {
-        return false;
-    }
-    if !sound_job_records::priority_within(p, k) {
-        return false;
-    }
-    if !sound_job_records::accumulated_within(p, k) {
-        return false;
-    }
-    if !sound_job_records::timeout_within(p, k) {
-        return false;
-    }
-    if !sound_job_records::owner_older(p, k) {
-        return false;
-    }
-    if !sound_job_records::wait_allowed(p, k) {
-        return false;
-    }
-    sound_job_records::idle_zero(p, k)
+    is_entry_fine(p, Table::Jobs, k)
+        && is_zero_fine(p, k)
+        && sound_job_records::priority_within(p, k)
+        && sound_job_records::accumulated_within(p, k)
+        && sound_job_records::timeout_within(p, k)
+        && sound_job_records::owner_older(p, k)
+        && sound_job_records::wait_allowed(p, k)
+        && sound_job_records::idle_zero(p, k)
 }
 
 // The rules of a channel in use.
+#[tactic(auto, unfolding(crate::specs::Entries::live_fine))]
 pub fn is_channel_fine(p: &[u32], k: usize) -> bool
     requires { (heap_base ≤ length p.now) × ((k < positions Channels) × (used p.now Channels k ≡ true)) }
     ensures { result ≡ live_fine p.now Channels k }
 {
-    if !is_entry_fine(p, Table::Channels, k) {
-        return false;
-    }
-    sound_records::ends_in_one(p, k)
+    is_entry_fine(p, Table::Channels, k) && sound_records::ends_in_one(p, k)
 }
 
 // The rules of a record in use, but that its tag is used once.
@@ -100,59 +84,59 @@ pub fn is_blank_fine(p: &[u32], t: Table, k: usize) -> bool
     ensures { result ≡ blank_fine p.now t k }
 {
     match t {
-        Table::Jobs => (1 <= k) & sound_job_records::is_job_zero(p, k),
-        Table::Channels => sound_records::is_channel_zero(p, k),
+        Table::Jobs => (1 <= k) & sound_records::is_all_zero::<{ picture::JOB_WIDTH }>(p, t, k),
+        Table::Channels => sound_records::is_all_zero::<{ picture::CHANNEL_WIDTH }>(p, t, k),
     }
 }
 
-// No lower position in use has the same tag. Under the last six bits of a tag stands a note: 0 where no lower position has them, the position + 1
-// where one has, more than that where several have; so none is looked at, or that one, or all. The note has position k afterwards.
-pub fn is_tag_once(p: &[u32], t: Table, k: usize, seen: &mut [u8; 64]) -> bool
+// No lower position in use has the same tag. The note under the tag's last six bits says whether none is looked at, or one, or all. It has position k
+// afterwards.
+pub fn is_tag_once(p: &[u32], t: Table, k: usize, seen: &mut [Note; 64]) -> bool
     requires { (heap_base ≤ length p.now) × (k < positions t) }
     ensures value { result ≡ told_once p.now t k (note_of p.now t k seen.old) }
     ensures seen_after { seen.new ≡ with_note p.now t k seen.old }
 {
     let low = (sound_records::tag_at(p, t, k) % 64) as usize;
-    let note = seen[low];
-    if note == 0 {
-        seen[low] = (k + 1) as u8;
-        return true;
+    match seen[low] {
+        Note::Nothing => {
+            seen[low] = Note::At(k as u8);
+            true
+        }
+        Note::At(j) => {
+            seen[low] = Note::Several;
+            if usize::from(j) < k {
+                return sound_records::tags_differ(p, t, k, usize::from(j));
+            }
+            sound_records::tag_alone(p, t, k)
+        }
+        Note::Several => sound_records::tag_alone(p, t, k),
     }
-    seen[low] = SEVERAL;
-    if note <= k as u8 {
-        return sound_records::tags_differ(p, t, k, note as usize - 1);
-    }
-    sound_records::tag_alone(p, t, k)
 }
 
-// A walk over the table. It notes the position of each entry under its block's place, and under the last six bits of its tag, which only say where to
-// look first.
-pub fn walk_entries(p: &[u32], t: Table, noted: &mut [u8; 64]) -> Walked
+// A walk over the table: none where a record breaks a rule, or how many entries have a block. It notes the position of each entry under its block's place,
+// and under the last six bits of its tag, which only say where to look first.
+pub fn walk_entries(p: &[u32], t: Table, noted: &mut [u8; 64]) -> Option<usize>
     requires { heap_base ≤ length p.now }
     ensures { result ≡ entries_walked p.now t }
 {
-    let n = picture::positions_of(t);
     let first = sound_matching::first_of(t);
-    let mut seen = [0u8; 64];
+    let mut seen = [Note::Nothing; 64];
     let mut entries = 0;
-    let mut k = 0;
-    while k < n {
+    for k in 0..picture::positions_of(t) {
         if !picture_tables::is_used(p, t, k) {
             if !is_blank_fine(p, t, k) {
-                return Walked::Broken;
+                return None;
             }
-            k += 1;
             continue;
         }
         if !is_live_fine(p, t, k) {
-            return Walked::Broken;
+            return None;
         }
         if !is_tag_once(p, t, k, &mut seen) {
-            return Walked::Broken;
+            return None;
         }
         noted[(picture_tables::field_of(p, t, k, picture::BASE) / 16 % 64) as usize] = k as u8;
-        entries += sound_matching::one_of(first <= k);
-        k += 1;
+        entries += usize::from(first <= k);
     }
-    Walked::Counted(entries)
+    Some(entries)
 }

@@ -3,7 +3,7 @@
 
 ghost use Rattle.std.specs.Prelude.{◌≡◌, true, ◌<◌, ◌≤◌, length};
 ghost use Rattle.picture.specs.Layout.{positions, heap_base};
-ghost use Rattle.picture.specs.Records.{all_zero, used};
+ghost use Rattle.picture.specs.Records.{used};
 ghost use Rattle.picture.specs.declared.Table.TheVariants.{Jobs};
 ghost use Rattle.sound_records.specs.Rules.{zero_base, priority_within, accumulated_within, timeout_within};
 ghost use Rattle.sound_records.specs.Rules.{zero_exists, owner_older, zero_unowned, wait_allowed, idle_zero};
@@ -43,21 +43,6 @@ pub fn timeout_within(p: &[u32], k: usize) -> bool
 {
     let timeout = timeout_of(p, k);
     (WITHOUT_END <= timeout) & (timeout <= GREATEST_TIMEOUT)
-}
-
-// Every field of a job's record is zero.
-pub fn is_job_zero(p: &[u32], k: usize) -> bool
-    requires { (heap_base ≤ length p.now) × (k < positions Jobs) }
-    ensures { result ≡ all_zero p.now Jobs k }
-{
-    (field_of(p, Table::Jobs, k, picture::NUMBER) == 0)
-        & (field_of(p, Table::Jobs, k, picture::OWNER) == 0)
-        & (field_of(p, Table::Jobs, k, picture::BASE) == 0)
-        & (field_of(p, Table::Jobs, k, picture::PRIORITY) == 0)
-        & (field_of(p, Table::Jobs, k, picture::ACCUMULATED) == 0)
-        & (field_of(p, Table::Jobs, k, picture::TIMEOUT) == 0)
-        & (field_of(p, Table::Jobs, k, picture::WAIT) == 0)
-        & (field_of(p, Table::Jobs, k, picture::KEY) == 0)
 }
 
 // Job 0, in use, has number 0.

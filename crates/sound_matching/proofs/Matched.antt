@@ -1,15 +1,15 @@
 -- What the two rules of matching say together: live entries and blocks match one to one.
-use Prim.Native.Nat.{ℕ, zero, suc, ◌+◌, ◌*◌, ◌≤◌, ◌<◌}
-use mathlib.Core.Path.{◌≡◌, refl, sym, subst}
-use mathlib.Core.Bool.{Bool, true, false, ◌&&◌, ◌||◌, not}
-use mathlib.Core.Logic.{⊎_elim, ◌⊎◌, inl, inr}
+use Prim.Native.Nat.{ℕ, zero, suc, ◌+◌, ◌≤◌, ◌<◌}
+use mathlib.Core.Path.{◌≡◌, refl, subst}
+use mathlib.Core.Bool.{Bool, true, false, ◌||◌, not}
+use mathlib.Core.Logic.{⊎_elim}
 use mathlib.Core.List.{List}
 use lib.Dec.{eqb}
 use native.Mathlib.Omega.{arith}
 use borrow.Author.Tests.{eqb-true, eq-eqb}
-use Rattle.words.specs.Each.{every, one, count, all, any, In}
+use Rattle.words.specs.Each.{one, count, any, In}
 use Rattle.words.proofs.Tests.{unless, lt_or_ge}
-use Rattle.words.proofs.Each.{every_at, every_by, all_at, all_by, any_some, some_any, count_some, count_at, count_two, count_le}
+use Rattle.words.proofs.Each.{any_some, some_any, count_some, count_at, count_two}
 use Rattle.picture.specs.Layout.{positions}
 use Rattle.picture.specs.Records.{base}
 use Rattle.picture.specs.declared.Table.{Table}

@@ -1,7 +1,7 @@
 -- Document 01 (rules 42 to 45): "live jobs other than 0 and kind 3 blocks match one to one, channels and kind 2 blocks too,
 -- the record's base being the header's first byte and owners equal".
-use Rattle.std.specs.Prelude.{ℕ, ◌+◌, ◌*◌, Bool, ◌&&◌, ◌||◌, not, List, leb, eqb}
-use Rattle.words.specs.Each.{one, count, total, any}
+use Rattle.std.specs.Prelude.{ℕ, ◌*◌, Bool, ◌&&◌, ◌||◌, not, List, leb, eqb}
+use Rattle.words.specs.Each.{count, any}
 use Rattle.picture.specs.Layout.{positions}
 use Rattle.picture.specs.Records.{owner, base, used}
 use Rattle.picture.specs.declared.Table.{Table}

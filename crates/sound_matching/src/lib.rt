@@ -2,7 +2,6 @@
 #![tactic(auto)]
 
 ghost use Rattle.std.specs.Prelude.{◌≡◌, ◌+◌, ◌≤◌, ◌<◌, length};
-ghost use Rattle.words.specs.Each.{one};
 ghost use Rattle.picture.specs.Layout.{positions, heap_base};
 ghost use Rattle.blocks.specs.Header.{holder_field};
 ghost use Rattle.sound_matching.specs.Match.{first};
@@ -10,13 +9,6 @@ ghost use Rattle.sound_matching.specs.Agreed.{agrees, agreed, agreed_as_noted};
 
 use picture::Table;
 use picture_tables::field_of;
-
-// How a walk over a table or an area ends: at something that breaks a rule, or with what it counted.
-#[derive(Clone, Copy)]
-pub enum Walked {
-    Broken,
-    Counted(usize),
-}
 
 // The first position whose entry has a block.
 pub fn first_of(t: Table) -> usize
@@ -26,16 +18,6 @@ pub fn first_of(t: Table) -> usize
         Table::Jobs => 1,
         Table::Channels => 0,
     }
-}
-
-// 1 for a test that passes, 0 for one that fails.
-pub fn one_of(b: bool) -> usize
-    ensures { (result ≡ one b) × (result ≤ 1) }
-{
-    if b {
-        return 1;
-    }
-    0
 }
 
 // The block at i and the record of position k agree: base and owner.
@@ -54,30 +36,16 @@ pub fn is_agreed(p: &[u32], t: Table, i: usize) -> bool
     requires { (heap_base ≤ length p.now) × ((i + holder_field < length p.now) × (i < 8589934592)) }
     ensures { result ≡ agreed p.now t i }
 {
-    let n = picture::positions_of(t);
-    let mut k = 0;
-    while k < n {
-        if is_agreeing(p, t, k, i) {
-            return true;
-        }
-        k += 1;
-    }
-    false
+    (0..picture::positions_of(t)).any(|k| is_agreeing(p, t, k, i))
 }
 
-// A noted position as an index.
-fn wide(position: u8) -> usize
-    ensures { result ≡ position }
-{
-    position as usize
-}
-
-// The block at i agrees with the record at the position noted for its place.
+// The block at i agrees with the record at the position noted for its place. A byte is a position to look at first: where none was noted it is 0, which is
+// looked at like any other, so `Option<u8>` would add a way out and tell nothing.
 pub fn is_agreed_as_noted(p: &[u32], t: Table, i: usize, noted: &[u8; 64]) -> bool
     requires { (heap_base ≤ length p.now) × ((i + holder_field < length p.now) × (i < 8589934592)) }
     ensures { result ≡ agreed_as_noted p.now t i noted.now }
 {
-    let k = wide(noted[i / 4 % 64]);
+    let k = usize::from(noted[i / 4 % 64]);
     if picture::positions_of(t) <= k {
         return false;
     }

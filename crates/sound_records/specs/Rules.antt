@@ -1,5 +1,5 @@
 -- The rules of soundness for the record of position k, in document 01's order.
-use Rattle.std.specs.Prelude.{ℕ, ◌+◌, ◌/◌, ◌%◌, Bool, true, false, ◌&&◌, ◌||◌, not, List, leb, ltb, eqb, pos}
+use Rattle.std.specs.Prelude.{ℕ, Bool, true, false, ◌&&◌, ◌||◌, not, List, leb, ltb, eqb, pos}
 use Rattle.std.specs.Int.Signed.{le_z}
 use Rattle.words.specs.Words.{word}
 use Rattle.words.specs.Each.{every}

@@ -13,8 +13,10 @@ use Rattle.blocks.specs.Header.{size, kind, kind_of}
 use Rattle.sound_areas.specs.Rules.{length_whole, tiles}
 use Rattle.blocks.specs.Walk.{good, next, starts}
 use Rattle.blocks.proofs.Starts.{all_end, all_not, all_more, total_end, total_more}
+use mir.Val.{bool_byte}
+use Rattle.sound_matching.proofs.Converted.{one_converted, one_small}
 use Rattle.sound_walks.specs.Walks.{block_fine, blocks_walked}
-use Rattle.sound_matching.specs.declared.Walked.TheVariants.{Broken, Counted}
+use Rattle.std.specs.Prelude.{Some, None}
 
 module _ (p : List ℕ) (t : Table) (b e : ℕ) where
   abbrev pub of_kind : ℕ → ℕ
@@ -29,8 +31,10 @@ module _ (p : List ℕ) (t : Table) (b e : ℕ) where
   pub left_first : Left b 0
   left_first = record { few = omega arith; fine = refl; count = omega arith }
 
-  pub left_next : (i n r j : ℕ) → Left i n → i < e → block_fine p t e i ≡ true → r ≡ of_kind i → r ≤ 1 → j ≡ next p i e → i < j → Left j (n + r)
-  left_next i n r j l a h q u z o =
+  pub left_next : (i n r j : ℕ) → Left i n → i < e → block_fine p t e i ≡ true → r ≡ bool_byte (eqb (kind p i) (kind_of t)) → j ≡ next p i e → i < j → Left j (n + r)
+  left_next i n r j l a h w z o =
+      let q = w ∙ one_converted (eqb (kind p i) (kind_of t)) in
+      let u = one_small (eqb (kind p i) (kind_of t)) in
       let f = l.few in
       let c = l.count in
       let m = total_more p of_kind i e a in
@@ -40,16 +44,16 @@ module _ (p : List ℕ) (t : Table) (b e : ℕ) where
         count = rw z (omega arith);
       }
 
-  pub left_broken : (i n : ℕ) → Left i n → i < e → block_fine p t e i ≡ false → Broken ≡ blocks_walked p t b e
+  pub left_broken : (i n : ℕ) → Left i n → i < e → block_fine p t e i ≡ false → None ≡ blocks_walked p t b e
   unfolding blocks_walked
   left_broken i n l a h = rw (l.fine, all_not p (block_fine p t e) i e a h)
 
-  pub left_counted : (i n : ℕ) → Left i n → e ≤ i → Counted n ≡ blocks_walked p t b e
+  pub left_counted : (i n : ℕ) → Left i n → e ≤ i → Some n ≡ blocks_walked p t b e
   unfolding blocks_walked
   left_counted i n l a =
       let m = total_end p of_kind i e a in
       let z : n ≡ total of_kind (starts p b e) = let c = l.count in omega arith in
-      rw (l.fine, all_end p (block_fine p t e) i e a) (ap Counted z)
+      rw (l.fine, all_end p (block_fine p t e) i e a) (ap Some z)
 
 -- a block that is whole and ends within its area has its header there
 pub header_within : (p : List ℕ) (e i : ℕ) → length_whole p i ≡ true → tiles p e i ≡ true → i + 3 < e

@@ -8,7 +8,6 @@ ghost use Rattle.blocks.specs.Header.{start_field};
 ghost use Rattle.sound_walks.specs.Walks.{free_fine, held_fine, block_fine, blocks_walked};
 
 use picture::{Table, word_at};
-use sound_matching::Walked;
 
 // The rules of a free block, in an area that ends at e.
 pub fn is_free_fine(p: &[u32], e: usize, i: usize) -> bool
@@ -87,8 +86,10 @@ pub fn is_block_fine(p: &[u32], t: Table, e: usize, i: usize, noted: &[u8; 64]) 
     is_held_fine(p, t, i, noted)
 }
 
-// A walk over the blocks from b to e of the table's area.
-pub fn walk_blocks(p: &[u32], t: Table, b: usize, e: usize, noted: &[u8; 64]) -> Walked
+// A walk over the blocks from b to e of the table's area: none where one of them breaks a rule, or how many blocks of the table's kind there are. A step
+// goes by the length that the block at hand says, so an iterator would have a type of its own, with a state and a proof that it ends: no plainer than this
+// `while`.
+pub fn walk_blocks(p: &[u32], t: Table, b: usize, e: usize, noted: &[u8; 64]) -> Option<usize>
     requires { (heap_base ≤ length p.now) × ((e ≤ length p.now) × (e < 8589934592)) }
     ensures { result ≡ blocks_walked p.now t b e }
 {
@@ -97,10 +98,10 @@ pub fn walk_blocks(p: &[u32], t: Table, b: usize, e: usize, noted: &[u8; 64]) ->
     let mut found = 0;
     while i < e {
         if !is_block_fine(p, t, e, i, noted) {
-            return Walked::Broken;
+            return None;
         }
-        found += sound_matching::one_of(word_at(p, i + blocks::KIND) == kind);
+        found += usize::from(word_at(p, i + blocks::KIND) == kind);
         i += word_at(p, i) as usize / 4;
     }
-    Walked::Counted(found)
+    Some(found)
 }

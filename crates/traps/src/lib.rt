@@ -10,7 +10,8 @@ ghost use Rattle.traps.specs.Traps.{trap_one, trap_two, trap_three};
 
 use picture::Refusal;
 
-// Trap 1, by all 32 bits of D0.
+// Trap 1, by all 32 bits of D0. The caller's longword is any number at all: a match over the guide's codes is the table of calls, which an enum of them
+// would write a second time, and functions in a table would have to be found by the same match.
 pub fn trap_one(p: &mut [u32], code: u32, d: &mut [u32]) -> Result<(), Refusal>
     requires { sound p.old ≡ true }
     ensures { Meets (outcome (trap_one code) p.old d.old) (answer_key result) p.new d.new }

@@ -1,7 +1,6 @@
 use Rattle.sound_walks.proofs.Left.{fine_within, fine_next, left_first, left_next, left_broken, left_counted}
 use Rattle.blocks.proofs.Walk.{next_up, next_le, next_falls}
 use mathlib.Core.Path.{sym, ◌∙◌}
-use Prim.Native.Nat.{◌-◌}
 use native.Mathlib.Omega.{arith}
 use Rattle.sound_walks.proofs.walk_blocks.Goals as goal
 
@@ -15,9 +14,6 @@ pub word_at-requires : goal.word_at-requires
 word_at-requires c =
     let w = fine_within c.args.p.now c.args.t c.args.e c.loop-i.i (sym c.is_block_fine.ensures ∙ c.if-not-is_block_fine.false) in
     omega (arith, c.requires.1.0)
-
-pub overflow_add-found : goal.overflow_add-found
-overflow_add-found c = let n = c.loop-i.invariant.few in omega (arith, c.one_of-found.ensures.1)
 
 pub word_at-requires-in-loop-i : goal.word_at-requires-in-loop-i
 word_at-requires-in-loop-i c = omega (arith, c.requires.1.0, c.loop-i-test.true)
@@ -40,8 +36,7 @@ loop-i-preserved c =
     let z = fine_next a.p.now a.t a.e c.loop-i.i c.word_at-in-loop-i.result c.word_at-in-loop-i.ensures (sym c.is_block_fine.ensures ∙ c.if-not-is_block_fine.false) in
     let u = next_up a.p.now c.loop-i.i a.e c.loop-i-test.true in
     left_next _ _ _ _ _ _ _ _ c.loop-i.invariant c.loop-i-test.true (sym c.is_block_fine.ensures ∙ c.if-not-is_block_fine.false)
-    (c.one_of-found.ensures.0 ∙ rw (c.word_at.ensures, c.kind_of-kind.ensures))
-    c.one_of-found.ensures.1 z (rw z u.0)
+    (rw (c.word_at.ensures, c.kind_of-kind.ensures) at c.from-found.ensures) z (rw z u.0)
 
 pub returns : goal.returns
 returns c = left_counted _ _ _ _ _ _ c.loop-i.invariant c.loop-i-test.false
