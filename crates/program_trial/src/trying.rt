@@ -12,7 +12,7 @@ fn answer_of(key: i32) -> Answer {
 
 // Makes a call by its trap, with the name that stands in the call field.
 fn make_trap(p: &mut [u32], trap: u32, registers: &mut [u32], field: &[u8]) -> Answer {
-    let mut name = room::name_room();
+    let mut name = [0; room::NAME];
     let count = program_fields::read_name(field, &mut name);
     answer_of(manager::call(p, trap, registers, &name[..count]))
 }
@@ -54,7 +54,7 @@ fn try_call(
     field: &[u8],
     out: &mut [u8],
 ) -> usize {
-    let mut before = room::picture_room();
+    let mut before = [0; room::PICTURE];
     copy(p, &mut before);
     let answer = make_call(p, call, registers, field);
     report::write_answer(p, &before, answer, registers, out)
@@ -62,8 +62,8 @@ fn try_call(
 
 // Answers a line that asks for a call or a report.
 pub fn answer_call(line: &[u8], out: &mut [u8]) -> usize {
-    let mut p = room::picture_room();
-    let mut registers = room::registers_room();
+    let mut p = [0; room::PICTURE];
+    let mut registers = [0; room::REGISTERS];
     match program_fields::read_trial(&mut p, line, &mut registers) {
         Trial::Good(call, first, count, size) => try_call(
             &mut p[..size],
