@@ -8,7 +8,7 @@ mod running;
 mod telling;
 mod trying;
 
-pub use room::{answer_room, line_room};
+pub use room::{ANSWER, LINE};
 pub use running::answer_all;
 
 // What a call answered: its key's bits, and the number that a pick gave.

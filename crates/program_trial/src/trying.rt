@@ -11,7 +11,7 @@ fn answer_of(key: i32) -> Answer {
 
 // Makes a call by its trap, with the name that stands in the call field.
 fn make_trap(p: &mut [u32], trap: u32, registers: &mut [u32], field: &[u8]) -> Answer {
-    let mut name = room::name_room();
+    let mut name = [0; room::NAME];
     let count = program_fields::read_name(field, &mut name);
     answer_of(manager::call(p, trap, registers, &name[..count]))
 }
@@ -50,8 +50,8 @@ fn try_call(
 
 // Answers a line that asks for a call or a report.
 pub fn answer_call(line: &[u8], out: &mut [u8]) -> usize {
-    let mut p = room::picture_room();
-    let mut registers = room::registers_room();
+    let mut p = [0; room::PICTURE];
+    let mut registers = [0; room::REGISTERS];
     match program_fields::read_trial(&mut p, line, &mut registers) {
         Some(
             Trial::Call {
