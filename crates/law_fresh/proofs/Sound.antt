@@ -96,6 +96,13 @@ module _ (n h : ℕ) (g : Sizes n n h) where
   l0 : length p0 ≡ n
   l0 = length-replicate {A = ℕ} n 0
 
+  skip : (l : List ℕ) (i j v : ℕ) → (j ≡ i → ⊥) → word (put l i v) j ≡ word l j
+  skip l i j v d = get_or-set_other l i j v 0 d
+
+  -- job 0's record and the two blocks are written last
+  before_those : (j : ℕ) → (j ≡ zero_owner → ⊥) → (j ≡ zero_priority → ⊥) → (j ≡ heap_base → ⊥) → (j ≡ heap_base + h → ⊥) → word p7 j ≡ word p3 j
+  before_those j d9 d11 dh dt = skip p6 (heap_base + h) j _ dt ∙ skip p5 heap_base j _ dh ∙ skip p4 zero_priority j _ d11 ∙ skip p3 zero_owner j _ d9
+
   at : At
   unfolding fresh
   at =
@@ -108,18 +115,17 @@ module _ (n h : ℕ) (g : Sizes n n h) where
       let l4 = long p3 zero_owner nobody l3 in
       let l5 = long p4 zero_priority first_priority l4 in
       let l6 = long p5 heap_base (h * 4) l5 in
-      let skip : (l : List ℕ) (i j v : ℕ) → (j ≡ i → ⊥) → word (put l i v) j ≡ word l j = λ l i j v d. get_or-set_other l i j v 0 d in
       record {
-        size = skip p6 (heap_base + h) size_word _ (λ e. omega arith) ∙ skip p5 heap_base size_word _ (λ e. omega arith) ∙ skip p4 zero_priority size_word _ (λ e. omega arith) ∙ skip p3 zero_owner size_word _ (λ e. omega arith) ∙ with_members_other p2 Jobs 1 size_word (spares_size Jobs) ∙ skip p1 heap_word size_word _ (λ e. omega arith) ∙ get_or-set_same p0 size_word n 0 (omega (arith, l0));
-        heap = skip p6 (heap_base + h) heap_word _ (λ e. omega arith) ∙ skip p5 heap_base heap_word _ (λ e. omega arith) ∙ skip p4 zero_priority heap_word _ (λ e. omega arith) ∙ skip p3 zero_owner heap_word _ (λ e. omega arith) ∙ with_members_other p2 Jobs 1 heap_word (spares_heap Jobs) ∙ get_or-set_same p1 heap_word h 0 (omega arith);
+        size = before_those size_word (λ e. omega arith) (λ e. omega arith) (λ e. omega arith) (λ e. omega arith) ∙ with_members_other p2 Jobs 1 size_word (spares_size Jobs) ∙ skip p1 heap_word size_word _ (λ e. omega arith) ∙ get_or-set_same p0 size_word n 0 (omega (arith, l0));
+        heap = before_those heap_word (λ e. omega arith) (λ e. omega arith) (λ e. omega arith) (λ e. omega arith) ∙ with_members_other p2 Jobs 1 heap_word (spares_heap Jobs) ∙ get_or-set_same p1 heap_word h 0 (omega arith);
         mask =
-            members_same p3 p7 Jobs (λ j x. let y = holds_low Jobs j x in skip p6 (heap_base + h) j _ (λ e. omega arith) ∙ skip p5 heap_base j _ (λ e. omega arith) ∙ skip p4 zero_priority j _ (λ e. omega arith) ∙ skip p3 zero_owner j _ (λ e. omega arith))
+            members_same p3 p7 Jobs (λ j x. let y = holds_low Jobs j x in before_those j (λ e. omega arith) (λ e. omega arith) (λ e. omega arith) (λ e. omega arith))
             ∙ members_with p2 Jobs 1 (omega arith);
         owner = skip p6 (heap_base + h) zero_owner _ (λ e. omega arith) ∙ skip p5 heap_base zero_owner _ (λ e. omega arith) ∙ skip p4 zero_priority zero_owner _ (λ e. omega arith) ∙ get_or-set_same p3 zero_owner nobody 0 (omega arith);
         priority = skip p6 (heap_base + h) zero_priority _ (λ e. omega arith) ∙ skip p5 heap_base zero_priority _ (λ e. omega arith) ∙ get_or-set_same p4 zero_priority first_priority 0 (omega arith);
         heap_block = skip p6 (heap_base + h) heap_base _ (λ e. omega arith) ∙ get_or-set_same p5 heap_base (h * 4) 0 (omega arith);
         transient_block = get_or-set_same p6 (heap_base + h) ((n - (heap_base + h)) * 4) 0 (omega arith);
-        other = λ i d0 d4 d5 d9 d11 dh dt. skip p6 (heap_base + h) i _ dt ∙ skip p5 heap_base i _ dh ∙ skip p4 zero_priority i _ d11 ∙ skip p3 zero_owner i _ d9 ∙ with_members_other p2 Jobs 1 i d5 ∙ skip p1 heap_word i _ d4 ∙ skip p0 size_word i _ d0 ∙ zeros n i;
+        other = λ i d0 d4 d5 d9 d11 dh dt. before_those i d9 d11 dh dt ∙ with_members_other p2 Jobs 1 i d5 ∙ skip p1 heap_word i _ d4 ∙ skip p0 size_word i _ d0 ∙ zeros n i;
       }
 
   -- only job 0 is in use, and no channel

@@ -53,6 +53,6 @@ with_note p t k seen = set seen (tag (number p t k) % 64) (noted_too (note_of p 
 unfoldable pub record_fine : List ℕ → Table → ℕ → Bool
 record_fine p t k = cond (used p t k) (live_fine p t k && tag_once p t k) (blank_fine p t k)
 
--- a walk over the table: none where one of them breaks a rule, or how many entries have a block
+-- a walk over the table: none where a record breaks a rule, or how many entries have a block
 unfoldable pub entries_walked : List ℕ → Table → Option ℕ
 entries_walked p t = cond (every (record_fine p t) (positions t)) (Some (count (has_block p t) (positions t))) None

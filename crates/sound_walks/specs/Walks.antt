@@ -24,6 +24,6 @@ held_fine p Channels i = eqb (start p i) 0
 unfoldable pub block_fine : List ℕ → Table → ℕ → ℕ → Bool
 block_fine p t e i = length_whole p i && (tiles p e i && cond (free p i) (free_fine p e i) (held_fine p t i))
 
--- a walk over the blocks of the table's area: none where one of them breaks a rule, or how many blocks of the table's kind there are
+-- a walk over the blocks of the table's area: none where one breaks a rule, or how many blocks of the table's kind there are
 unfoldable pub blocks_walked : List ℕ → Table → ℕ → ℕ → Option ℕ
 blocks_walked p t b e = cond (all (block_fine p t e) (starts p b e)) (Some (total (λ (i : ℕ). one (eqb (kind p i) (kind_of t))) (starts p b e))) None
