@@ -34,6 +34,7 @@ pub fn caller_of(p: &[u32]) -> u32
 }
 
 // The job number that a register means: with bit 15 of the low word set, the current job's.
+#[tactic(auto, unfolding(crate::specs::Registers::meant))]
 pub fn number_meant(p: &[u32], n: u32) -> JobNumber
     ensures { result.0 ≡ meant p.now n }
 {

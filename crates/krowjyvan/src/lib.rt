@@ -7,8 +7,7 @@ ghost use Rattle.std.proofs.lemmas.List.Edits.{sets};
 ghost use Rattle.calls.specs.Outcome.{Meets};
 ghost use Rattle.fresh.specs.Fresh.{fresh_key, fresh_picture};
 ghost use Rattle.errors.specs.Text.{spot_of, error_key};
-ghost use Rattle.report_lines.specs.Order.{lines_from};
-ghost use Rattle.report_lines.specs.Report.{report_key, report_lines as reportLines};
+ghost use Rattle.report_lines.specs.Report.{report_key, report_lines as reportLines, lines_left};
 ghost use Rattle.report_table.specs.Longwords.{line_longwords};
 ghost use Rattle.manager.specs.Door.{called};
 ghost use Rattle.manager.specs.Turn.{ticking, pick_picture, pick_answer, tick_key};
@@ -16,9 +15,8 @@ ghost use Rattle.krowjyvan.specs.Part.{part_of};
 ghost use Rattle.krowjyvan.specs.Lines.{lines_lent, lines_longwords};
 
 use errors::{Part, Spot};
-use report_lines::{Beginning, JobLine, begin, line_of};
+use report_lines::{JobLine, Lines, begin};
 use report_table::longwords_of;
-use words::put;
 
 // manager::fresh.
 pub fn krowjyvan_fresh(p: &mut [u32], n: u32, h: u32) -> i32
@@ -56,10 +54,17 @@ pub fn krowjyvan_report_tree(p: &[u32], top: u32, lines: &mut [u32], count: &mut
     ensures { (result ≡ report_key p.now top (lines_lent lines.old)) × ((count.new ≡ length (reportLines p.now top (lines_lent lines.old))) × (lines.new ≡ sets lines.old 0 (lines_longwords (reportLines p.now top (lines_lent lines.old))))) }
 {
     let lent = lines.len() / 5;
-    let begun = begin(p, top, lent);
-    put_lines(lines, p, top, begun);
-    *count = begun.count;
-    begun.key
+    match begin(p, top, lent) {
+        Ok(report) => {
+            *count = report.count;
+            put_lines(lines, report);
+            picture::DONE
+        }
+        Err(refusal) => {
+            *count = 0;
+            i32::from(refusal)
+        }
+    }
 }
 
 // manager::error_text and manager::error_key: the key is returned, and where the part starts in its text and how many characters it
@@ -89,18 +94,14 @@ fn part_in(spot: Option<Spot>) -> Part
     }
 }
 
-// The lines of a report that has begun, stored from the table's start on.
-fn put_lines(table: &mut [u32], p: &[u32], top: u32, begun: Beginning)
-    requires { begun.count ≤ lines_lent table.old }
-    ensures { table.new ≡ sets table.old 0 (lines_longwords (lines_from begun.count p.now begun.members begun.top top)) }
+// The lines, stored from the table's start on.
+#[tactic(auto, using(crate::proofs::Lines::line_stored, crate::proofs::Lines::none_stored))]
+fn put_lines(table: &mut [u32], lines: Lines<'_>)
+    requires { length (lines_left lines) ≤ lines_lent table.old }
+    ensures { table.new ≡ sets table.old 0 (lines_longwords (lines_left lines.entry)) }
 {
-    let mut number = top;
-    let mut i = 0;
-    while i < begun.count {
-        let step = line_of(p, begun.members, begun.top, number);
-        put_line(table, i, step.line);
-        number = step.next;
-        i += 1;
+    for (i, line) in lines.enumerate() {
+        put_line(table, i, line);
     }
 }
 
@@ -109,10 +110,5 @@ fn put_line(table: &mut [u32], i: usize, line: JobLine)
     requires { i < lines_lent table.old }
     ensures { table.new ≡ sets table.old (5 * i) (line_longwords line) }
 {
-    let longwords = longwords_of(line);
-    let mut k = 0;
-    while k < 5 {
-        put(table, 5 * i + k, longwords[k]);
-        k += 1;
-    }
+    table[5 * i..5 * i + 5].copy_from_slice(&longwords_of(line));
 }

@@ -5,7 +5,7 @@ use Prim.Native.Nat.{ℕ}
 use lib.ListN.{replicate}
 use Rattle.program_digits.specs.Digits.{digit, digits, number, numbers}
 use Rattle.program_writing.specs.Texts.{capital, past, written, written_words, with_words, with_answer}
-use Rattle.program_lines.specs.Frames.{Frame, bad, picks, ticks, traps, alone, trapped, called, frame}
+use Rattle.program_lines.specs.Frames.{bad, picks, ticks, traps, alone, trapped, called, frame}
 
 abbrev take_100 : List ℕ
 take_100 =

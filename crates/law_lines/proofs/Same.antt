@@ -1,6 +1,6 @@
 -- What is written is read back as the same numbers. A number's digits are written from the last one up, each below those
 -- written before it, so that no digit is written over; words are written upwards. Assumes nothing.
-use mathlib.Core.Path.{◌≡◌, refl, sym, ap, ◌∙◌}
+use mathlib.Core.Path.{◌≡◌, refl, ap, ◌∙◌}
 use mathlib.Core.Bool.{Bool, true, false}
 use mathlib.Core.Logic.{⊎_elim}
 use mathlib.Core.List.{List, [], ◌∷◌}
@@ -11,18 +11,17 @@ use borrow.Author.Tests.{lt-ltb, le-ltb, le-leb, ltb-true, ltb-false}
 use lib.Dec.{ltb}
 use lib.ListN.{length, get_or, set, length-set}
 use lib.Seq.{get_or-set_same, get_or-set_other}
-use Rattle.program_digits.specs.declared.Read.{Read}
-use Rattle.program_digits.specs.declared.Read.TheVariants.{Number, Nothing}
-use Rattle.program_digits.specs.Digits.{pick, digit, told, worth, digits, number, read, numbers}
+use Rattle.std.specs.Prelude.{Some, is_some}
+use Rattle.program_digits.specs.Digits.{pick, digit, digits, number, read, numbers}
 use Rattle.program_writing.specs.Texts.{capital, past, written, written_words, with_number, with_words, with_answer}
 use Rattle.law_lines.specs.Back.{NumberComesBack, AnswerComesBack}
 use Rattle.program_writing.proofs.Writer.{length_written, written_other}
 
-digit_capital : (d : ℕ) → d < 16 → digit (capital d) ≡ Number d
+digit_capital : (d : ℕ) → d < 16 → digit (capital d) ≡ Some d
 unfolding digit capital
 digit_capital d l = go (ltb d 10) refl
   where
-    go : (b : Bool) → ltb d 10 ≡ b → digit (pick b (d + 48) (d + 55)) ≡ Number d
+    go : (b : Bool) → ltb d 10 ≡ b → digit (pick b (d + 48) (d + 55)) ≡ Some d
     go true e =
         let m : d < 10 = ltb-true d 10 e in
         let z : d + 48 - 48 ≡ d = omega arith in
@@ -33,7 +32,7 @@ digit_capital d l = go (ltb d 10) refl
         rw (le-ltb (d + 55) 48 (omega arith), le-ltb (d + 55) 58 (omega arith), le-ltb (d + 55) 65 (omega arith), lt-ltb (d + 55) 71 (omega arith), z)
 
 -- the last digit written
-written_last : (s : List ℕ) (i n x : ℕ) → i + suc n ≤ length s → digit (get_or (written s i (suc n) x) (i + n) 0) ≡ Number (x % 16)
+written_last : (s : List ℕ) (i n x : ℕ) → i + suc n ≤ length s → digit (get_or (written s i (suc n) x) (i + n) 0) ≡ Some (x % 16)
 unfolding written
 written_last s i n x l =
     ap digit
@@ -50,7 +49,7 @@ number_back s i (suc n) x l m =
     let f : i + n ≤ length t = simp length-set (omega arith) in
     rw (number_back t i n (x / 16) f (omega arith), written_last s i n x l) (omega arith)
 
-written_digits : (s : List ℕ) (i n x j : ℕ) → i + n ≤ length s → j < n → told (digit (get_or (written s i n x) (i + j) 0)) ≡ true
+written_digits : (s : List ℕ) (i n x j : ℕ) → i + n ≤ length s → j < n → is_some (digit (get_or (written s i n x) (i + j) 0)) ≡ true
 unfolding written
 written_digits s i zero x j l m = elim m [ ]
 written_digits s i (suc n) x j l m =
@@ -61,12 +60,12 @@ written_digits s i (suc n) x j l m =
     (λ (k : j < n). written_digits t i n (x / 16) j f k)
     (eq-or-lt_of_le (le_of_suc-le-suc m))
 
-each_digits : (s : List ℕ) (i n : ℕ) → ((j : ℕ) → j < n → told (digit (get_or s (i + j) 0)) ≡ true) → digits s i n ≡ true
+each_digits : (s : List ℕ) (i n : ℕ) → ((j : ℕ) → j < n → is_some (digit (get_or s (i + j) 0)) ≡ true) → digits s i n ≡ true
 unfolding digits
 each_digits s i zero h = refl
 each_digits s i (suc n) h =
     let z : i + 0 ≡ i = omega arith in
-    let a : told (digit (get_or s i 0)) ≡ true = rw z at (h 0 (omega arith)) in
+    let a : is_some (digit (get_or s i 0)) ≡ true = rw z at (h 0 (omega arith)) in
     rw (a) (each_digits s (i + 1) n (λ j l. let e : i + 1 + j ≡ i + suc j = omega arith in rw e (h (suc j) (omega arith))))
 
 pub number_comes_back : NumberComesBack

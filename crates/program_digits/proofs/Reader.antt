@@ -1,25 +1,28 @@
 -- Laws of digits and numbers as they are read. Assumes nothing.
 use mathlib.Core.Path.{◌≡◌, refl, sym, ap, ◌∙◌}
-use mathlib.Core.Bool.{Bool, true, false, false≢true, ◌&&◌, ◌||◌}
-use mathlib.Core.List.{List}
-use Prim.Native.Nat.{ℕ, zero, suc, ◌+◌, ◌-◌, ◌*◌, ◌/◌, ◌%◌, ◌^◌, ◌<◌, ◌≤◌}
+use mathlib.Core.Bool.{Bool, true, false, false≢true, ◌&&◌}
+use mathlib.Core.List.{List, [], ◌∷◌}
+use Prim.Native.Nat.{ℕ, zero, suc, ◌+◌, ◌-◌, ◌*◌, ◌/◌, ◌%◌, ◌^◌, ◌<◌, ◌≤◌, min}
 use native.Mathlib.Nat.{pow-suc, pow-le-pow_right}
 use native.Mathlib.Numerals.{add-one}
 use native.Mathlib.Omega.{arith}
-use borrow.Author.Tests.{ltb-true, ltb-false, le-leb, lt-leb}
+use borrow.Author.Tests.{ltb-true, ltb-false, leb-true, leb-false}
 use lib.Dec.{leb, ltb}
-use lib.ListN.{length, get_or, get_or-eq_default, set}
-use lib.Seq.{sets}
-use Rattle.program_digits.specs.declared.Read.TheVariants.{Number, Nothing}
-use Rattle.program_digits.specs.Digits.{pick, digit, told, worth, digits, number, numbers}
+use lib.ListN.{length, get_or, get_or-eq_default, set, take, drop}
+use lib.Seq.{sets, set_out, drop-cons}
+use Rattle.std.proofs.lemmas.Bool.Decides.{nat_tests}
+use Rattle.std.specs.Char.{is_ascii_hexdigit}
+use Rattle.std.specs.List.{list_all}
+use Rattle.std.specs.Prelude.{Some, None, is_some, unwrap_or}
+use Rattle.program_digits.specs.Digits.{pick, digit, digits, number, numbers}
 
 -- a digit is below 16
-pub worth_small : (c : ℕ) → worth (digit c) < 16
+pub digit_small : (c : ℕ) → unwrap_or (digit c) 0 < 16
 unfolding digit
-worth_small c = go (ltb c 48) (ltb c 58) (ltb c 65) (ltb c 71) (ltb c 97) (ltb c 103) refl refl refl
+digit_small c = go (ltb c 48) (ltb c 58) (ltb c 65) (ltb c 71) (ltb c 97) (ltb c 103) refl refl refl
   where
     go : (a b d e f g : Bool) → ltb c 58 ≡ b → ltb c 71 ≡ e → ltb c 103 ≡ g →
-        worth (pick a Nothing (pick b (Number (c - 48)) (pick d Nothing (pick e (Number (c - 55)) (pick f Nothing (pick g (Number (c - 87)) Nothing)))))) < 16
+        unwrap_or (pick a None (pick b (Some (c - 48)) (pick d None (pick e (Some (c - 55)) (pick f None (pick g (Some (c - 87)) None)))))) 0 < 16
     go true b d e f g p q r = omega arith
     go false true d e f g p q r = omega (arith, ltb-true c 58 p)
     go false false true e f g p q r = omega arith
@@ -29,29 +32,18 @@ worth_small c = go (ltb c 48) (ltb c 58) (ltb c 65) (ltb c 71) (ltb c 97) (ltb c
     go false false false false false false p q r = omega arith
 
 -- a digit lies in one of three ranges
-pub told_ranges : (c : ℕ) → told (digit c) ≡ (leb 48 c && ltb c 58) || ((leb 65 c && ltb c 71) || (leb 97 c && ltb c 103))
+pub digit_ranges : (c : ℕ) → is_some (digit c) ≡ is_ascii_hexdigit c
 unfolding digit
-told_ranges c = go (ltb c 48) (ltb c 58) (ltb c 65) (ltb c 71) (ltb c 97) (ltb c 103) refl refl refl refl refl
-  where
-    go : (a b d e f g : Bool) → ltb c 48 ≡ a → ltb c 58 ≡ b → ltb c 65 ≡ d → ltb c 71 ≡ e → ltb c 97 ≡ f →
-        told (pick a Nothing (pick b (Number (c - 48)) (pick d Nothing (pick e (Number (c - 55)) (pick f Nothing (pick g (Number (c - 87)) Nothing))))))
-        ≡ (leb 48 c && b) || ((leb 65 c && e) || (leb 97 c && g))
-    go true b d e f g p q r s t = let l : c < 48 = ltb-true c 48 p in rw (lt-leb 48 c l, lt-leb 65 c (omega arith), lt-leb 97 c (omega arith))
-    go false true d e f g p q r s t = rw (le-leb 48 c (ltb-false c 48 p))
-    go false false true e f g p q r s t = let l : c < 65 = ltb-true c 65 r in rw (le-leb 48 c (ltb-false c 48 p), lt-leb 65 c l, lt-leb 97 c (omega arith))
-    go false false false true f g p q r s t = rw (le-leb 48 c (ltb-false c 48 p), le-leb 65 c (ltb-false c 65 r))
-    go false false false false true g p q r s t = rw (le-leb 48 c (ltb-false c 48 p), le-leb 65 c (ltb-false c 65 r), lt-leb 97 c (ltb-true c 97 t))
-    go false false false false false true p q r s t = rw (le-leb 48 c (ltb-false c 48 p), le-leb 65 c (ltb-false c 65 r), le-leb 97 c (ltb-false c 97 t))
-    go false false false false false false p q r s t = rw (le-leb 48 c (ltb-false c 48 p), le-leb 65 c (ltb-false c 65 r), le-leb 97 c (ltb-false c 97 t))
+digit_ranges c = grind (arith, nat_tests)
 
 -- a digit's value is its last four bits, and 9 more for a letter
-pub worth_bits : (c : ℕ) → told (digit c) ≡ true → c % 16 + 9 * (c / 64) ≡ worth (digit c)
+pub digit_bits : (c : ℕ) → is_some (digit c) ≡ true → c % 16 + 9 * (c / 64) ≡ unwrap_or (digit c) 0
 unfolding digit
-worth_bits c = go (ltb c 48) (ltb c 58) (ltb c 65) (ltb c 71) (ltb c 97) (ltb c 103) refl refl refl refl refl refl
+digit_bits c = go (ltb c 48) (ltb c 58) (ltb c 65) (ltb c 71) (ltb c 97) (ltb c 103) refl refl refl refl refl refl
   where
     go : (a b d e f g : Bool) → ltb c 48 ≡ a → ltb c 58 ≡ b → ltb c 65 ≡ d → ltb c 71 ≡ e → ltb c 97 ≡ f → ltb c 103 ≡ g →
-        told (pick a Nothing (pick b (Number (c - 48)) (pick d Nothing (pick e (Number (c - 55)) (pick f Nothing (pick g (Number (c - 87)) Nothing)))))) ≡ true →
-        c % 16 + 9 * (c / 64) ≡ worth (pick a Nothing (pick b (Number (c - 48)) (pick d Nothing (pick e (Number (c - 55)) (pick f Nothing (pick g (Number (c - 87)) Nothing))))))
+        is_some (pick a None (pick b (Some (c - 48)) (pick d None (pick e (Some (c - 55)) (pick f None (pick g (Some (c - 87)) None)))))) ≡ true →
+        c % 16 + 9 * (c / 64) ≡ unwrap_or (pick a None (pick b (Some (c - 48)) (pick d None (pick e (Some (c - 55)) (pick f None (pick g (Some (c - 87)) None)))))) 0
     go true b d e f g p q r s t u h = absurd (false≢true h)
     go false true d e f g p q r s t u h = omega (arith, ltb-false c 48 p, ltb-true c 58 q)
     go false false true e f g p q r s t u h = absurd (false≢true h)
@@ -61,9 +53,9 @@ worth_bits c = go (ltb c 48) (ltb c 58) (ltb c 65) (ltb c 71) (ltb c 97) (ltb c 
     go false false false false false false p q r s t u h = absurd (false≢true h)
 
 -- what is a digit lies in the text
-told_inside : (s : List ℕ) (i : ℕ) → told (digit (get_or s i 0)) ≡ true → i < length s
+digit_inside : (s : List ℕ) (i : ℕ) → is_some (digit (get_or s i 0)) ≡ true → i < length s
 unfolding digit
-told_inside s i h = go (ltb i (length s)) refl
+digit_inside s i h = go (ltb i (length s)) refl
   where
     go : (b : Bool) → ltb i (length s) ≡ b → i < length s
     go true e = ltb-true i (length s) e
@@ -78,7 +70,7 @@ digits_split s i zero n = let y : 0 + n ≡ n = omega arith in let z : i + 0 ≡
 digits_split s i (suc m) n =
     let y : suc m + n ≡ suc (m + n) = omega arith in
     let z : i + 1 + m ≡ i + suc m = omega arith in
-    rw (y, digits_split s (i + 1) m n, z) (go (told (digit (get_or s i 0))))
+    rw (y, digits_split s (i + 1) m n, z) (go (is_some (digit (get_or s i 0))))
   where
     go : (t : Bool) → pick t (digits s (i + 1) m && digits s (i + suc m) n) false ≡ pick t (digits s (i + 1) m) false && digits s (i + suc m) n
     go true = refl
@@ -103,16 +95,16 @@ digits_part s i n j m h l =
     (both _ (digits s (i + j + m) r) (sym (digits_split s (i + j) m r) ∙ behind)).0
 
 -- each of them is one, and lies in the text
-pub digits_at : (s : List ℕ) (i n k : ℕ) → digits s i n ≡ true → k < n → told (digit (get_or s (i + k) 0)) ≡ true
+pub digits_at : (s : List ℕ) (i n k : ℕ) → digits s i n ≡ true → k < n → is_some (digit (get_or s (i + k) 0)) ≡ true
 unfolding digits
-digits_at s i n k h l = go (told (digit (get_or s (i + k) 0))) (digits_part s i n k 1 h (omega arith))
+digits_at s i n k h l = go (is_some (digit (get_or s (i + k) 0))) (digits_part s i n k 1 h (omega arith))
   where
     go : (t : Bool) → pick t true false ≡ true → t ≡ true
     go true e = refl
     go false e = e
 
 pub digits_inside : (s : List ℕ) (i n k : ℕ) → digits s i n ≡ true → k < n → i + k < length s
-digits_inside s i n k h l = told_inside s (i + k) (digits_at s i n k h l)
+digits_inside s i n k h l = digit_inside s (i + k) (digits_at s i n k h l)
 
 -- characters past the end are no digits
 pub digits_past : (s : List ℕ) (i n : ℕ) → 0 < n → length s < i + n → digits s i n ≡ false
@@ -127,11 +119,11 @@ module _ (s : List ℕ) (i k n : ℕ) where
   left_more : k < n → n - k ≡ suc (n - (k + 1))
   left_more l = omega arith
 
-  pub digits_more : k < n → told (digit (get_or s (i + k) 0)) ≡ true → digits s (i + k) (n - k) ≡ digits s (i + (k + 1)) (n - (k + 1))
+  pub digits_more : k < n → is_some (digit (get_or s (i + k) 0)) ≡ true → digits s (i + k) (n - k) ≡ digits s (i + (k + 1)) (n - (k + 1))
   unfolding digits
   digits_more l h = let z : i + k + 1 ≡ i + (k + 1) = omega arith in rw (left_more l, h, z)
 
-  pub digits_not : k < n → told (digit (get_or s (i + k) 0)) ≡ false → digits s (i + k) (n - k) ≡ false
+  pub digits_not : k < n → is_some (digit (get_or s (i + k) 0)) ≡ false → digits s (i + k) (n - k) ≡ false
   unfolding digits
   digits_not l h = rw (left_more l, h)
 
@@ -143,6 +135,16 @@ module _ (s : List ℕ) (i k n : ℕ) where
 
   pub digits_end : n ≤ k → digits s (i + k) (n - k) ≡ true
   digits_end l = digits_none s (i + k) (n - k) (omega arith)
+
+-- digits that lie in the text are a part of it of which each character is one
+pub digits_all : (s : List ℕ) (i n : ℕ) → i + n ≤ length s → digits s i n ≡ list_all (λ c. is_some (digit c)) (take n (drop i s))
+unfolding digits
+digits_all s i zero l = refl
+digits_all s i (suc n) l = rw (drop-cons s i 0 (omega arith), digits_all s (i + 1) n (omega arith), add-one i) (go (is_some (digit (get_or s i 0))))
+  where
+    go : (t : Bool) → pick t (list_all (λ c. is_some (digit c)) (take n (drop (suc i) s))) false ≡ t && list_all (λ c. is_some (digit c)) (take n (drop (suc i) s))
+    go true = refl
+    go false = refl
 
 -- tests four and four, and one after the other
 and_eight : (a b c d e f g h : Bool) → (((a && b) && c) && d) && (((e && f) && g) && h) ≡ a && (b && (c && (d && (e && (f && (g && (h && true)))))))
@@ -158,7 +160,7 @@ and_eight true true true true true true true true = refl
 
 -- the character at a place is a digit
 abbrev pub is_one : List ℕ → ℕ → Bool
-is_one s i = told (digit (get_or s i 0))
+is_one s i = is_some (digit (get_or s i 0))
 
 -- eight digits are eight characters, each a digit
 module _ (s : List ℕ) (i : ℕ) where
@@ -178,7 +180,7 @@ module _ (s : List ℕ) (i : ℕ) where
   digits_eight = and_eight (is_one s i) (is_one s (i + 1)) (is_one s (i + 2)) (is_one s (i + 3)) (is_one s (i + 4)) (is_one s (i + 5)) (is_one s (i + 6)) (is_one s (i + 7)) ∙ sym chain
 
 -- one digit more of a number
-pub number_more : (s : List ℕ) (i k : ℕ) → number s i (k + 1) ≡ number s i k * 16 + worth (digit (get_or s (i + k) 0))
+pub number_more : (s : List ℕ) (i k : ℕ) → number s i (k + 1) ≡ number s i k * 16 + unwrap_or (digit (get_or s (i + k) 0)) 0
 unfolding number
 number_more s i k = rw add-one
 
@@ -200,12 +202,21 @@ unfolding numbers
 length_numbers s i w zero = refl
 length_numbers s i w (suc n) = ap suc (length_numbers s (i + w) w n)
 
--- the numbers that are still to be stored, one more of them, and none
-module _ (s : List ℕ) (i k w n : ℕ) (q : List ℕ) where
-  pub numbers_more : k < n → sets q k (numbers s i w (n - k)) ≡ sets (set q k (number s i w)) (k + 1) (numbers s (i + w) w (n - (k + 1)))
-  unfolding numbers
-  numbers_more l = rw (left_more s i k n l, add-one)
+-- numbers past the end are not stored
+pub stores_past : (q : List ℕ) (k : ℕ) (vs : List ℕ) → length q ≤ k → sets q k vs ≡ q
+stores_past q k [] l = refl
+stores_past q k (v ∷ vs) l = rw (set_out q k v l) (stores_past q (suc k) vs (omega arith))
 
-  pub numbers_end : n ≤ k → sets q k (numbers s i w (n - k)) ≡ q
+-- the numbers that are still to be stored: one more of them, and none where all are or the room is full
+module _ (s : List ℕ) (i k w n : ℕ) (q : List ℕ) where
+  pub numbers_more : k < n → sets q k (numbers s (i + w * k) w (n - k)) ≡ sets (set q k (number s (i + w * k) w)) (k + 1) (numbers s (i + w * (k + 1)) w (n - (k + 1)))
   unfolding numbers
-  numbers_end l = let z : n - k ≡ 0 = omega arith in rw z
+  numbers_more l = let z : i + w * (k + 1) ≡ i + w * k + w = omega arith in rw (left_more s i k n l, z, add-one)
+
+  pub numbers_stored : min n (length q) ≤ k → sets q k (numbers s (i + w * k) w (n - k)) ≡ q
+  unfolding numbers
+  numbers_stored l = go (leb n k) refl
+    where
+      go : (b : Bool) → leb n k ≡ b → sets q k (numbers s (i + w * k) w (n - k)) ≡ q
+      go true e = let m : n ≤ k = leb-true n k e in let z : n - k ≡ 0 = omega arith in rw z
+      go false e = let m : k < n = leb-false n k e in stores_past q k (numbers s (i + w * k) w (n - k)) (omega arith)

@@ -1,16 +1,22 @@
 -- Laws of where a line ends, and of a part that is put behind another. Assumes nothing.
 use mathlib.Core.Path.{◌≡◌, refl, sym, ap, ◌∙◌}
-use mathlib.Core.Bool.{Bool, true, false, ◌||◌}
+use mathlib.Core.Bool.{Bool, true, false, cond, ◌||◌}
 use mathlib.Core.Logic.{◌≢◌}
-use mathlib.Core.List.{List, [], ◌∷◌}
-use Prim.Native.Nat.{ℕ, zero, suc, ◌+◌, ◌-◌, ◌<◌, ◌≤◌}
+use mathlib.Core.List.{List, [], ◌∷◌, ◌++◌}
+use Prim.Native.Nat.{ℕ, zero, suc, ◌+◌, ◌-◌, ◌<◌, ◌≤◌, min}
 use native.Mathlib.Numerals.{add-one}
 use native.Mathlib.Omega.{arith}
-use borrow.Author.Tests.{eqb-true, eqb-false, eq-eqb, ne_eqb, ltb-true, ltb-false, lt-ltb, le-ltb}
-use lib.Dec.{eqb, ltb}
-use lib.ListN.{length, get_or, set, drop, length-drop, drop_of_length-le}
-use lib.Seq.{drop-cons, set_out, sets}
+use borrow.Author.Tests.{eqb-true, eqb-false, eq-eqb, ne_eqb, ltb-true, ltb-false, lt-ltb, le-ltb, leb-true, leb-false}
+use lib.Dec.{eqb, ltb, leb}
+use lib.ListN.{length, get_or, set, take, drop, length-drop, drop_of_length-le}
+use lib.Seq.{drop-cons, sets, length-sets, length-take-le, take_all}
+use Rattle.std.proofs.lemmas.List.{take-append-drop, append_assoc}
+use Rattle.std.proofs.lemmas.List.Edits.{sets-eq}
+use Rattle.std.proofs.lemmas.List.Recursion.{is_position_or_len}
+use Rattle.std.specs.List.{position}
+use Rattle.std.specs.Prelude.{Some, None, unwrap_or}
 use Rattle.program_digits.specs.Digits.{pick}
+use Rattle.program_digits.proofs.Reader.{stores_past}
 use Rattle.program_lines.specs.Feeds.{before_feed, line_end}
 
 -- it ends here, further on, or at the end
@@ -32,7 +38,7 @@ module _ (s : List ℕ) (i : ℕ) where
   end_from = omega arith
 
 -- a line feed stands within the text or at its end
-before_all : (s : List ℕ) → before_feed s ≤ length s
+pub before_all : (s : List ℕ) → before_feed s ≤ length s
 unfolding before_feed
 before_all [] = omega arith
 before_all (c ∷ s) = go (eqb c 10) (before_all s)
@@ -98,14 +104,41 @@ module _ (s : List ℕ) (i : ℕ) where
   pub end_among_eight : i + 8 ≤ length s → ((((((is_feed s i || is_feed s (i + 1)) || is_feed s (i + 2)) || is_feed s (i + 3)) || is_feed s (i + 4)) || is_feed s (i + 5)) || is_feed s (i + 6)) || is_feed s (i + 7) ≡ ltb (line_end s i) (i + 8)
   end_among_eight l = or_eight (is_feed s i) (is_feed s (i + 1)) (is_feed s (i + 2)) (is_feed s (i + 3)) (is_feed s (i + 4)) (is_feed s (i + 5)) (is_feed s (i + 6)) (is_feed s (i + 7)) ∙ sym (chain l)
 
--- one store more, none left, and those past the end
-module _ (q : List ℕ) (k i : ℕ) (vs : List ℕ) where
-  pub stores_more : i < length vs → sets q k (drop i vs) ≡ sets (set q k (get_or vs i 0)) (k + 1) (drop (i + 1) vs)
-  stores_more l = rw (drop-cons vs i 0 l, add-one k, add-one i)
+-- the first line feed stands where it is first found, and at the end where there is none
+feed_first : (s : List ℕ) → unwrap_or (position (λ c. eqb c 10) s) (length s) ≡ before_feed s
+unfolding before_feed
+feed_first s = rw (← is_position_or_len before_feed (λ c. eqb c 10) refl (λ c t. each (eqb c 10) (before_feed t)) s) (go (ltb (before_feed s) (length s)) refl (before_all s))
+  where
+    each : (b : Bool) (n : ℕ) → pick b 0 (suc n) ≡ cond b 0 (1 + n)
+    each true n = refl
+    each false n = omega arith
 
-  pub stores_none : length vs ≤ i → sets q k (drop i vs) ≡ q
-  stores_none l = rw (drop_of_length-le vs l)
+    go : (b : Bool) → ltb (before_feed s) (length s) ≡ b → before_feed s ≤ length s → unwrap_or (cond b (Some (before_feed s)) None) (length s) ≡ before_feed s
+    go true e l = refl
+    go false e l = omega (arith, ltb-false (before_feed s) (length s) e)
 
-pub stores_past : (q : List ℕ) (k : ℕ) (vs : List ℕ) → length q ≤ k → sets q k vs ≡ q
-stores_past q k [] l = refl
-stores_past q k (v ∷ vs) l = rw (set_out q k v l) (stores_past q (suc k) vs (omega arith))
+-- the line ends where a line feed is found in the rest of the text, and at its end where there is none
+pub end_found : (s : List ℕ) (i r : ℕ) → i ≤ length s → r ≡ unwrap_or (position (λ c. eqb c 10) (take (length s - i) (drop i s))) (length s - i) → i + r ≡ line_end s i
+unfolding line_end
+end_found s i r l e =
+    let z : take (length s - i) (drop i s) ≡ drop i s = take_all (length s - i) (drop i s) (rw (length-drop i s) (omega arith)) in
+    ap (λ (n : ℕ). i + n) (e ∙ rw (z, ← length-drop i s) (feed_first (drop i s)))
+
+-- stores of two parts, one behind the other
+stores_parts : (q : List ℕ) (k : ℕ) (t u : List ℕ) → sets q k (t ++ u) ≡ sets (sets q k t) (k + length t) u
+stores_parts q k [] u = let z : k + 0 ≡ k = omega arith in rw z
+stores_parts q k (v ∷ t) u = let z : k + suc (length t) ≡ suc k + length t = omega arith in rw (stores_parts (set q k v) (suc k) t u, z)
+
+-- of a part that is stored as much is stored as there is room for
+pub stores_first : (q : List ℕ) (k n : ℕ) (t : List ℕ) → k + n ≡ min (length q) (k + length t) → take k q ++ (take n t ++ drop (k + n) q) ≡ sets q k t
+stores_first q k n t e =
+    let m : length (take n t) ≡ n = length-take-le n t (omega arith) in
+    let f : k + length (take n t) ≤ length q = omega arith in
+    let x = sets q k (take n t) in
+    let y : x ≡ take k q ++ (take n t ++ drop (k + n) q) = rw (m, append_assoc (take k q) (take n t) (drop (k + n) q)) at (sets-eq (take n t) q k f) in
+    let z : sets q k t ≡ sets x (k + n) (drop n t) = rw (take-append-drop n t, m) at (stores_parts q k (take n t) (drop n t)) in
+    sym (z ∙ go (leb (length t) n) refl x (length-sets q k (take n t)) ∙ y)
+  where
+    go : (b : Bool) → leb (length t) n ≡ b → (x : List ℕ) → length x ≡ length q → sets x (k + n) (drop n t) ≡ x
+    go true h x l = rw (drop_of_length-le t (leb-true (length t) n h))
+    go false h x l = let g : n < length t = leb-false (length t) n h in stores_past x (k + n) (drop n t) (omega arith)

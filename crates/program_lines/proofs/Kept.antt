@@ -9,7 +9,7 @@ use lib.Dec.{leb, ltb}
 use lib.ListN.{length, take, set, length-take, length-set}
 use lib.Seq.{sets, take_all, take-suc-set, take-append-le, append_snoc, length-take-le}
 use Rattle.program_lines.specs.Frames.{frame}
-use Rattle.program_lines.proofs.Ends.{stores_past}
+use Rattle.program_digits.proofs.Reader.{stores_past}
 use Rattle.program_lines.proofs.Meaning.{long_bad}
 
 -- a line of more than 512 characters is bad whatever it holds, so that many of it are enough

@@ -1,6 +1,6 @@
 -- Laws of a session line's meaning, one for each way that the reader goes. Assumes nothing.
 use mathlib.Core.Path.{◌≡◌, refl, sym, ap, subst, ◌∙◌}
-use mathlib.Core.Bool.{Bool, true, false}
+use mathlib.Core.Bool.{Bool, true, false, cond}
 use mathlib.Core.Logic.{◌≢◌}
 use mathlib.Core.List.{List, []}
 use Prim.Native.Nat.{ℕ, ◌-◌, ◌/◌, ◌%◌, ◌<◌, ◌≤◌}
@@ -10,24 +10,18 @@ use lib.Dec.{ltb, eqb}
 use lib.ListN.{length}
 use Rattle.program_digits.specs.Digits.{pick, digits, number, numbers}
 use Rattle.program_digits.proofs.Reader.{length_numbers}
+use Rattle.std.specs.Prelude.{Option, Some, None}
 use Rattle.program_lines.specs.declared.Line.{Line}
-use Rattle.program_lines.specs.declared.Line.TheVariants.{Bad, Pick, Tick, Report, Trap}
+use Rattle.program_lines.specs.declared.Line.TheVariants.{Pick, Tick, Report, Trap}
 use Rattle.program_lines.specs.Frames.{Frame, bad, picks, ticks, reports, traps, alone, reported, trapped, called, frame, kind_of, registers_of, name_of, Told}
 
 -- what is read of one frame is read of an equal one
-pub told_as : (f g : Frame) (r : Line) (a b c d : List ℕ) → f ≡ g → Told g r a b c d → Told f r a b c d
+pub told_as : (f g : Frame) (r : Option Line) (a b c d : List ℕ) → f ≡ g → Told g r a b c d → Told f r a b c d
 told_as f g r a b c d e t = subst (λ (h : Frame). Told h r a b c d) (sym e) t
 
--- frames that have no registers and no name leave the rooms as they are
-module _ (f : Frame) (a b : List ℕ) where
-  pub told_bad : f ≡ bad → Told f Bad a b a b
-  told_bad e = told_as f bad Bad a b a b e (record { kind = refl; registers = refl; name = refl })
-
-  pub told_pick : f ≡ picks → Told f Pick a b a b
-  told_pick e = told_as f picks Pick a b a b e (record { kind = refl; registers = refl; name = refl })
-
-  pub told_tick : f ≡ ticks → Told f Tick a b a b
-  told_tick e = told_as f ticks Tick a b a b e (record { kind = refl; registers = refl; name = refl })
+-- a bad line leaves the rooms as they are
+pub told_bad : (f : Frame) (a b : List ℕ) → f ≡ bad → Told f None a b a b
+told_bad f a b e = told_as f bad None a b a b e (record { kind = refl; registers = refl; name = refl })
 
 module _ (n : ℕ) (s : List ℕ) where
   pub trap_short : length s < 66 → trapped n s ≡ bad
@@ -46,48 +40,45 @@ module _ (n : ℕ) (s : List ℕ) where
   unfolding trapped
   trap_whole e m = rw (le-ltb (length s) 66 (omega arith), ne_eqb n 2 e, eq-eqb (length s) 66 m)
 
-  pub pick_alone : n ≡ 0xF0 → length s ≡ 2 → called n s ≡ picks
-  unfolding called alone
-  pick_alone e m = rw (eq-eqb n 240 e, eq-eqb (length s) 2 m)
-
-  pub pick_left_over : n ≡ 0xF0 → length s ≢ 2 → called n s ≡ bad
-  unfolding called alone
-  pick_left_over e m = rw (eq-eqb n 240 e, ne_eqb (length s) 2 m)
-
-  pub tick_alone : n ≡ 0xF1 → length s ≡ 2 → called n s ≡ ticks
-  unfolding called alone
-  tick_alone e m = rw (ne_eqb n 240 (λ z. omega arith), eq-eqb n 241 e, eq-eqb (length s) 2 m)
-
-  pub tick_left_over : n ≡ 0xF1 → length s ≢ 2 → called n s ≡ bad
-  unfolding called alone
-  tick_left_over e m = rw (ne_eqb n 240 (λ z. omega arith), eq-eqb n 241 e, ne_eqb (length s) 2 m)
-
-  pub report_called : n ≡ 0xF2 → called n s ≡ reported s
-  unfolding called
-  report_called e = rw (ne_eqb n 240 (λ z. omega arith), ne_eqb n 241 (λ z. omega arith), eq-eqb n 242 e)
-
   pub trap_called : n ≢ 0xF0 → n ≢ 0xF1 → n ≢ 0xF2 → called n s ≡ trapped n s
   unfolding called
   trap_called e f g = rw (ne_eqb n 240 e, ne_eqb n 241 f, ne_eqb n 242 g)
 
 -- a report is read, whole or left over
 module _ (s : List ℕ) where
-  pub report_left_over : length s ≢ 10 → Bad ≡ kind_of (reported s)
+  pub report_left_over : length s ≢ 10 → None ≡ kind_of (reported s)
   unfolding reported
   report_left_over e = rw (ne_eqb (length s) 10 e)
 
-  pub report_whole : length s ≡ 10 → (n : ℕ) → n ≡ number s 2 8 → Report n ≡ kind_of (reported s)
+  pub report_whole : length s ≡ 10 → (n : ℕ) → n ≡ number s 2 8 → Some (Report n) ≡ kind_of (reported s)
   unfolding reported
   report_whole e n f = rw (eq-eqb (length s) 10 e, f)
 
-  -- and leaves the rooms
-  pub told_report : (f : Frame) (r : Line) (a b : List ℕ) → f ≡ reported s → r ≡ kind_of (reported s) → Told f r a b a b
-  unfolding reported
-  told_report f r a b e k = told_as f (reported s) r a b a b e (go (eqb (length s) 10) refl)
+-- a pick, a tick and a report, alone or left over, leave the rooms as they are
+module _ (n : ℕ) (s : List ℕ) (r : Option Line) (a b : List ℕ) where
+  pub pick_called : n ≡ 0xF0 → r ≡ cond (eqb (length s) 2) (Some Pick) None → Told (called n s) r a b a b
+  unfolding called alone
+  pick_called e k = rw (eq-eqb n 240 e) (go (eqb (length s) 2) k)
     where
-      go : (t : Bool) → eqb (length s) 10 ≡ t → Told (reported s) r a b a b
-      go true z = record { kind = k; registers = rw z; name = rw z }
-      go false z = record { kind = k; registers = rw z; name = rw z }
+      go : (t : Bool) → r ≡ cond t (Some Pick) None → Told (pick t picks bad) r a b a b
+      go true k = record { kind = k; registers = refl; name = refl }
+      go false k = record { kind = k; registers = refl; name = refl }
+
+  pub tick_called : n ≡ 0xF1 → r ≡ cond (eqb (length s) 2) (Some Tick) None → Told (called n s) r a b a b
+  unfolding called alone
+  tick_called e k = rw (ne_eqb n 240 (λ z. omega arith), eq-eqb n 241 e) (go (eqb (length s) 2) k)
+    where
+      go : (t : Bool) → r ≡ cond t (Some Tick) None → Told (pick t ticks bad) r a b a b
+      go true k = record { kind = k; registers = refl; name = refl }
+      go false k = record { kind = k; registers = refl; name = refl }
+
+  pub report_called : n ≡ 0xF2 → r ≡ kind_of (reported s) → Told (called n s) r a b a b
+  unfolding called reported
+  report_called e k = rw (ne_eqb n 240 (λ z. omega arith), ne_eqb n 241 (λ z. omega arith), eq-eqb n 242 e) (go (eqb (length s) 10) k)
+    where
+      go : (t : Bool) → r ≡ kind_of (pick t (reports (number s 2 8)) bad) → Told (pick t (reports (number s 2 8)) bad) r a b a b
+      go true k = record { kind = k; registers = refl; name = refl }
+      go false k = record { kind = k; registers = refl; name = refl }
 
 module _ (s : List ℕ) where
   pub empty_bad : length s ≡ 0 → frame s ≡ bad
@@ -151,12 +142,12 @@ fits_frame s = fits_pick (eqb (length s) 0) {f = bad} (record { sized = tt }) (g
         lone)
 
 -- the frame of a line of this kind with these registers and this name
-abbrev pub framed : Line → List ℕ → List ℕ → Frame
-framed Bad registers name = bad
-framed Pick registers name = picks
-framed Tick registers name = ticks
-framed (Report n) registers name = reports n
-framed (Trap n k) registers name = traps n registers name
+abbrev pub framed : Option Line → List ℕ → List ℕ → Frame
+framed None registers name = bad
+framed (Some Pick) registers name = picks
+framed (Some Tick) registers name = ticks
+framed (Some (Report n)) registers name = reports n
+framed (Some (Trap n k)) registers name = traps n registers name
 
 -- a frame is that of its kind
 as_framed : (f : Frame) → f ≡ framed (kind_of f) (registers_of f) (name_of f)
@@ -166,16 +157,16 @@ as_framed ticks = refl
 as_framed (reports n) = refl
 as_framed (traps n registers name) = refl
 
-pub kind_says : (f : Frame) (r : Line) → kind_of f ≡ r → f ≡ framed r (registers_of f) (name_of f)
-kind_says f r e = as_framed f ∙ ap (λ (x : Line). framed x (registers_of f) (name_of f)) e
+pub kind_says : (f : Frame) (r : Option Line) → kind_of f ≡ r → f ≡ framed r (registers_of f) (name_of f)
+kind_says f r e = as_framed f ∙ ap (λ (x : Option Line). framed x (registers_of f) (name_of f)) e
 
 -- how many bytes of name a kind tells
-abbrev told_bytes : Line → ℕ
-told_bytes Bad = 0
-told_bytes Pick = 0
-told_bytes Tick = 0
-told_bytes (Report n) = 0
-told_bytes (Trap n k) = k
+abbrev told_bytes : Option Line → ℕ
+told_bytes None = 0
+told_bytes (Some Pick) = 0
+told_bytes (Some Tick) = 0
+told_bytes (Some (Report n)) = 0
+told_bytes (Some (Trap n k)) = k
 
 names_bytes : (f : Frame) → told_bytes (kind_of f) ≡ length (name_of f)
 names_bytes bad = refl
@@ -191,9 +182,9 @@ pub record Trapped (f : Frame) (n k : ℕ) : Type 0 where
   pub counts : length (name_of f) ≡ k
   pub short : k ≤ 223
 
-pub trap_read : (s : List ℕ) (n k : ℕ) → kind_of (frame s) ≡ Trap n k → Trapped (frame s) n k
+pub trap_read : (s : List ℕ) (n k : ℕ) → kind_of (frame s) ≡ Some (Trap n k) → Trapped (frame s) n k
 trap_read s n k e =
-    let i = kind_says (frame s) (Trap n k) e in
+    let i = kind_says (frame s) (Some (Trap n k)) e in
     let c = sym (names_bytes (frame s)) ∙ ap told_bytes e in
     let z : (length (registers_of (frame s)) ≡ 8) × (length (name_of (frame s)) ≤ 223) = subst Sized i (fits_frame s).sized in
     record { is = i; eight = z.0; counts = c; short = rw c at z.1 }

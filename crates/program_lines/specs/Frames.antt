@@ -1,9 +1,9 @@
 -- The session program's lines (rules 114 and 115): one frame a line, without its line feed.
-use Rattle.std.specs.Prelude.{◌≡◌, List, [], ℕ, ◌-◌, ◌/◌, ◌%◌, ltb, eqb, length}
+use Rattle.std.specs.Prelude.{◌≡◌, List, [], Option, Some, None, ℕ, ◌-◌, ◌/◌, ◌%◌, ltb, eqb, length}
 use Rattle.std.proofs.lemmas.List.Edits.{sets}
 use Rattle.program_digits.specs.Digits.{pick, digits, number, numbers}
 use Rattle.program_lines.specs.declared.Line.{Line}
-use Rattle.program_lines.specs.declared.Line.TheVariants.{Bad, Pick, Tick, Report, Trap}
+use Rattle.program_lines.specs.declared.Line.TheVariants.{Pick, Tick, Report, Trap}
 
 -- a bad line, a pick, a tick, a report of the tree of a job by its number, or a trap by its number with eight registers and a name's bytes
 pub data Frame : Type 0 where
@@ -40,13 +40,13 @@ frame s =
     (pick (eqb (length s % 2) 1) bad
     (pick (digits s 0 (length s)) (called (number s 0 2) s) bad)))
 
--- a frame as the reader answers it: a trap by its number and how many bytes its name has
-abbrev pub kind_of : Frame → Line
-kind_of bad = Bad
-kind_of picks = Pick
-kind_of ticks = Tick
-kind_of (reports n) = Report n
-kind_of (traps n registers name) = Trap n (length name)
+-- a frame as the reader answers it: nothing of a bad line, and a trap by its number and how many bytes its name has
+abbrev pub kind_of : Frame → Option Line
+kind_of bad = None
+kind_of picks = Some Pick
+kind_of ticks = Some Tick
+kind_of (reports n) = Some (Report n)
+kind_of (traps n registers name) = Some (Trap n (length name))
 
 abbrev pub registers_of : Frame → List ℕ
 registers_of bad = []
@@ -63,7 +63,7 @@ name_of (reports n) = []
 name_of (traps n registers name) = name
 
 -- a frame is read: its kind is r, and its registers and its name are put into the rooms a and b, which are then c and d
-pub record Told (f : Frame) (r : Line) (a b c d : List ℕ) : Type 0 where
+pub record Told (f : Frame) (r : Option Line) (a b c d : List ℕ) : Type 0 where
   pub kind : r ≡ kind_of f
   pub registers : c ≡ sets a 0 (registers_of f)
   pub name : d ≡ sets b 0 (name_of f)

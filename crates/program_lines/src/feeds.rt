@@ -1,4 +1,5 @@
-ghost use Rattle.std.specs.Prelude.{◌≡◌, ◌+◌, ◌≤◌, ◌<◌, min, eqb, ltb, get_or, length};
+ghost use Rattle.std.specs.Prelude.{◌≡◌, ◌+◌, ◌≤◌, ◌<◌, min, ◌==◌, eqb, ltb, get_or, length};
+ghost use Rattle.std.specs.List.{position};
 ghost use Rattle.std.proofs.lemmas.List.Edits.{sets};
 ghost use Rattle.program_lines.specs.Feeds.{line_end};
 
@@ -40,6 +41,13 @@ fn skip(text: &[u8], from: usize) -> usize
     i
 }
 
+// Where the first line feed stands.
+fn feed_in(text: &[u8]) -> Option<usize>
+    ensures { result ≡ position (λ c. c == 10) text.now }
+{
+    text.iter().position(|character| *character == b'\n')
+}
+
 // The place of the first line feed from a place on, or the text's length where there is none.
 pub fn line_end(text: &[u8], from: usize) -> usize
     ensures value { result ≡ line_end text.now from }
@@ -48,14 +56,8 @@ pub fn line_end(text: &[u8], from: usize) -> usize
     if text.len() <= from {
         return from;
     }
-    let mut i = skip(text, from);
-    while i < text.len() {
-        if is_feed(text, i) {
-            return i;
-        }
-        i += 1;
-    }
-    i
+    let i = skip(text, from);
+    i + feed_in(&text[i..]).unwrap_or(text.len() - i)
 }
 
 // Puts a part of a line behind what is there of it, as far as the line has room, and answers how far it is filled.
@@ -64,15 +66,7 @@ pub fn keep(part: &[u8], place: usize, line: &mut [u8]) -> usize
     ensures value { (result ≡ min (length line.old) (place + length part.now)) × (result ≤ length line.old) }
     ensures line_after { line.new ≡ sets line.old place part.now }
 {
-    let mut end = place;
-    let mut i = 0;
-    while i < part.len() {
-        if end == line.len() {
-            return end;
-        }
-        line[end] = part[i];
-        end += 1;
-        i += 1;
-    }
+    let end = line.len().min(place + part.len());
+    line[place..end].copy_from_slice(&part[..end - place]);
     end
 }

@@ -7,12 +7,11 @@ mod frames;
 pub use feeds::{keep, line_end};
 pub use frames::read_line;
 
-// What a line of a session asks for: nothing good, a pick, a tick, the report of the tree of a job by its number, or a trap by its number, with how many bytes of name.
+// What a good line of a session asks for: a pick, a tick, the report of the tree of a job by its number, or a trap by its number, with how many bytes of name.
 #[derive(Clone, Copy)]
 pub enum Line {
-    Bad,
     Pick,
     Tick,
     Report(u32),
-    Trap(u32, usize),
+    Trap { trap: u32, count: usize },
 }

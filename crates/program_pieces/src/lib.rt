@@ -1,75 +1,68 @@
 // Input and output in large pieces, and what is said where a read or a write fails.
 #![tactic(auto)]
 
-ghost use Rattle.std.specs.Prelude.{◌≡◌, ◌<◌, length};
-ghost use Rattle.program_pieces.specs.Read.{Within};
+ghost use Rattle.std.specs.Prelude.{◌≡◌, ◌≤◌, length, IfOk};
+ghost use Rattle.program_pieces.specs.declared.Stopped.TheVariants.{Input, Output};
 
+use std::fmt;
 use std::io::{Read, Write};
 
-// What a read gave: so many characters, none at the end of input, or nothing, since it failed.
-#[derive(Clone, Copy)]
-pub enum Input {
-    Characters(usize),
-    Failed,
+// A read failed.
+#[derive(Clone, Copy, Debug)]
+pub struct Unread;
+
+// A write failed.
+#[derive(Clone, Copy, Debug)]
+pub struct Unwritten;
+
+// Why a run stops before all of its input is answered.
+#[derive(Clone, Copy, Debug)]
+pub enum Stopped {
+    Input,
+    Output,
 }
 
-// How many characters of the line at hand are kept behind a piece of input, or that its answers could not be written.
-#[derive(Clone, Copy)]
-pub enum Kept {
-    Characters(usize),
-    Unwritten,
-}
+impl From<Unread> for Stopped {
+    ghost from_gives = { λ _ stopped. stopped ≡ Input };
 
-// Room for a large piece of input, or of output.
-pub fn large_room() -> [u8; 65536]
-    ensures { 65536 ≡ length result }
-{
-    [0; 65536]
-}
-
-// Reads characters of standard input into the start of a room.
-pub fn read_in(rt: &HostRuntime, room: &mut [u8]) -> Input
-    ensures { Within result room.new }
-{
-    match rt.stdin().read(room) {
-        Ok(got) => Input::Characters(got),
-        Err(_) => Input::Failed,
+    fn from(_unread: Unread) -> Self {
+        Self::Input
     }
 }
 
-// Writes out the first `used` characters of a room, and answers whether all could be written.
-pub fn write_out(rt: &HostRuntime, room: &[u8], used: usize) -> bool {
-    if room.len() < used {
-        return false;
+impl From<Unwritten> for Stopped {
+    ghost from_gives = { λ _ stopped. stopped ≡ Output };
+
+    fn from(_unwritten: Unwritten) -> Self {
+        Self::Output
     }
-    rt.stdout().write_all(&room[..used]).is_ok()
 }
 
-// Says something of a program on standard error, as far as that can be written.
-fn say(rt: &HostRuntime, program: &[u8], what: &[u8]) {
-    let mut errors = rt.stderr();
-    let _ = errors.write_all(program);
-    let _ = errors.write_all(what);
+impl fmt::Display for Stopped {
+    fn fmt<W: fmt::Write>(&self, f: &mut fmt::Formatter<W>) -> fmt::Result {
+        f.write_str(match self {
+            Stopped::Input => "the input could not be read to its end.",
+            Stopped::Output => "the output could not be written; answers from here on are lost.",
+        })
+    }
 }
 
-// Says of a program that its input ended in a failure.
-pub fn say_unread(rt: &HostRuntime, program: &[u8]) {
-    say(rt, program, b": the input could not be read to its end.\n");
-}
+// How long a room for a large piece of input, or of output, is.
+pub const LARGE: usize = 65536;
 
-// Says of a program that its output failed.
-pub fn say_unwritten(rt: &HostRuntime, program: &[u8]) {
-    say(
-        rt,
-        program,
-        b": the output could not be written; answers from here on are lost.\n",
-    );
-}
-
-// How many turns are left after one that read `got` characters: none once the input has ended.
-pub fn turns_after(turns: u64, got: usize) -> u64
-    requires { 0 < turns }
-    ensures { result < turns }
+// Reads characters of standard input into the start of a room, and answers how many: none at the end of input.
+pub fn read_in(rt: &HostRuntime, room: &mut [u8]) -> Result<usize, Unread>
+    ensures { IfOk result (λ got. got ≤ length room.new) }
 {
-    if got == 0 { 0 } else { turns - 1 }
+    rt.stdin().read(room).map_err(|_| Unread)
+}
+
+// Writes out a text.
+pub fn write_out(rt: &HostRuntime, text: &[u8]) -> Result<(), Unwritten> {
+    rt.stdout().write_all(text).map_err(|_| Unwritten)
+}
+
+// Says on standard error why a program stopped, as far as that can be written.
+pub fn say(rt: &HostRuntime, program: &str, stopped: Stopped) {
+    let _ = eprintln!(rt; "{program}: {stopped}");
 }

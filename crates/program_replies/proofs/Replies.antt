@@ -4,7 +4,7 @@ use mathlib.Core.Path.{◌≡◌, refl, sym, ap, subst, ◌∙◌}
 use mathlib.Core.List.{List, [], ◌∷◌}
 use native.Mathlib.Omega.{arith}
 use lib.IntN.{ℤ}
-use lib.ListN.{length, take, drop, drop_of_length-le}
+use lib.ListN.{length, take, drop_of_length-le}
 use lib.Seq.{sets, length-sets, take_all}
 use Rattle.calls.specs.Outcome.{Meets}
 use Rattle.program_writing.proofs.Room.{first_of, rest_of, all_of}

@@ -96,15 +96,14 @@ module _ (a : State) (s : List ℕ) (n : ℕ) (p k : List ℕ) (h : Held (after 
       rw (take-add n m s, after_append a (take n s) (take m (drop n s))) (held_after (after a (take n s)) p k h (take m (drop n s)) q l (rw u at g))
 
   -- what those characters give, counted
-  pub piece_counts : (m v w x u : ℕ) (b : List ℕ) → w ≡ counted (v + length (gives a (take n s))) → take u b ≡ gives (with_line p k) (take m (take (length s - n) (drop n s))) → u ≤ length b → x ≡ counted (w + u)
+  pub piece_counts : (m v w x : ℕ) (t : List ℕ) → w ≡ counted (v + length (gives a (take n s))) → t ≡ gives (with_line p k) (take m (take (length s - n) (drop n s))) → x ≡ counted (w + length t)
       → x ≡ counted (v + length (gives a (take (n + m) s)))
-  piece_counts m v w x u b f g l e =
+  piece_counts m v w x t f g e =
       let r : take (length s - n) (drop n s) ≡ drop n s = take_all (length s - n) (drop n s) (rw (length-drop n s) (omega arith)) in
-      let z : u ≡ length (gives (after a (take n s)) (take m (drop n s))) =
-      sym (length-take-le u b l) ∙ ap length (g ∙ ap (λ (t : List ℕ). gives (with_line p k) (take m t)) r ∙ held_gives (after a (take n s)) p k h (take m (drop n s))) in
-      let y : length (gives a (take (n + m) s)) ≡ length (gives a (take n s)) + u =
-      ap length (ap (gives a) (take-add n m s) ∙ gives_append a (take n s) (take m (drop n s))) ∙ length-append (gives a (take n s)) (gives (after a (take n s)) (take m (drop n s))) ∙ ap (λ (t : ℕ). length (gives a (take n s)) + t) (sym z) in
-      e ∙ two_counts v w (length (gives a (take n s))) u f ∙ ap (λ (t : ℕ). counted (v + t)) (sym y)
+      let z : t ≡ gives (after a (take n s)) (take m (drop n s)) = g ∙ ap (λ (u : List ℕ). gives (with_line p k) (take m u)) r ∙ held_gives (after a (take n s)) p k h (take m (drop n s)) in
+      let y : length (gives a (take (n + m) s)) ≡ length (gives a (take n s)) + length t =
+      ap length (ap (gives a) (take-add n m s) ∙ gives_append a (take n s) (take m (drop n s))) ∙ length-append (gives a (take n s)) (gives (after a (take n s)) (take m (drop n s))) ∙ ap (λ (u : List ℕ). length (gives a (take n s)) + length u) (sym z) in
+      e ∙ two_counts v w (length (gives a (take n s))) (length t) f ∙ ap (λ (u : ℕ). counted (v + u)) (sym y)
 
   pub all_counts : length s ≤ n → (v w : ℕ) → w ≡ counted (v + length (gives a (take n s))) → w ≡ counted (v + length (gives a s))
   all_counts l v w e = rw (take_all n s l) at e

@@ -1,8 +1,7 @@
 -- A session in the rooms that are lent: the picture, the line as far as it is kept, and the output's text.
-use Rattle.std.specs.Prelude.{◌≡◌, ℕ, ◌+◌, ◌%◌, ◌^◌, ◌<◌, ◌≤◌, List, ◌++◌, length, take}
+use Rattle.std.specs.Prelude.{◌≡◌, ℕ, ◌+◌, ◌%◌, ◌^◌, ◌<◌, ◌≤◌, List, ◌++◌, length, take, Result, Ok, Err}
 use Rattle.program_reports.specs.Reports.{longest_report}
-use Rattle.program_pieces.specs.declared.Kept.{Kept}
-use Rattle.program_pieces.specs.declared.Kept.TheVariants.{Characters, Unwritten}
+use Rattle.program_pieces.specs.declared.Unwritten.{Unwritten}
 use Rattle.program_session.specs.Session.{line_text, line_picture}
 use Rattle.program_session.specs.Pieces.{State, start, after, gives, last_feed, at_end}
 
@@ -44,9 +43,9 @@ abbrev pub counted : ℕ → ℕ
 counted n = n % 2 ^ 64
 
 -- a piece is taken, and as many characters more are written as it gives; or the output failed when n characters of it were
-abbrev pub TakenAll : State → List ℕ → List ℕ → List ℕ → ℕ → ℕ → Kept → Type 0
-TakenAll a s q d v w (Characters k) = (k ≤ length d) × (Held (after a s) q (take k d)) × (w ≡ counted (v + length (gives a s)))
-TakenAll a s q d v w Unwritten = (n : ℕ) × (q ≡ (after a (take n s)).picture)
+abbrev pub TakenAll : State → List ℕ → List ℕ → List ℕ → ℕ → ℕ → Result ℕ Unwritten → Type 0
+TakenAll a s q d v w (Ok k) = (k ≤ length d) × (Held (after a s) q (take k d)) × (w ≡ counted (v + length (gives a s)))
+TakenAll a s q d v w (Err _) = (n : ℕ) × (q ≡ (after a (take n s)).picture)
 
 -- the end of input is answered: q is the picture after it, and what it gives is the first r characters of b
 pub record Ended (a : State) (q b : List ℕ) (r : ℕ) : Type 0 where

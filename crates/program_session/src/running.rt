@@ -3,29 +3,22 @@ ghost use Rattle.program_session.specs.Session.{first_picture};
 ghost use Rattle.program_session.specs.Pieces.{with_line};
 ghost use Rattle.program_session.specs.Rooms.{longest_answer, counted, Roomy, Answered, Taken, TakenAll, Ended, Known, Given, Reached};
 
-use crate::{Progress, room};
-use program_pieces::{Input, Kept};
+use crate::Progress;
+use program_pieces::{Stopped, Unwritten};
 use program_replies::Answer;
 
 // The most characters that an answer has: a line of 41 for each position.
 const LONGEST_ANSWER: usize = 41 * picture::JOBS;
 
-// Says that the input failed.
-fn say_unread(rt: &HostRuntime) {
-    program_pieces::say_unread(rt, b"session");
-}
-
-// Says that the output failed.
-fn say_unwritten(rt: &HostRuntime) {
-    program_pieces::say_unwritten(rt, b"session");
-}
+// How many registers a trap's line has.
+const REGISTERS: usize = 8;
 
 // Answers a line, behind what is used of the output's room, and answers how much is used then.
 fn answer_line(p: &mut [u32], line: &[u8], out: &mut [u8], used: usize) -> usize
     requires { used + longest_answer ≤ length out.old }
     ensures { Answered line.now p.old p.new out.old used out.new result }
 {
-    let mut registers = room::registers_room();
+    let mut registers = [0; REGISTERS];
     match program_replies::answer_frame(p, line, &mut registers) {
         Answer::Longwords(count) => program_writing::write_answer(out, used, &registers[..count]),
         Answer::Report(top) => program_reports::write_report(p, top, out, used),
@@ -74,25 +67,24 @@ fn take_lines(p: &mut [u32], chunk: &[u8], kept: usize, line: &mut [u8], out: &m
             return Progress {
                 taken: start,
                 kept: 0,
-                used: used,
+                used,
             };
         }
     }
     Progress {
         taken: chunk.len(),
         kept: program_lines::keep(&chunk[start..], filled, line),
-        used: used,
+        used,
     }
 }
 
 // Writes out a piece: the text that a piece of input gives after the input before it. It is the next of the output behind the characters that are written already.
-fn write_piece(rt: &HostRuntime, out: &[u8], used: usize, written: &mut u64) -> bool
-    requires used_in_bounds { used ≤ length out.now }
-    requires given { Given (take used out.now) written.old }
-    ensures { written.new ≡ counted (written.old + used) }
+fn write_piece(rt: &HostRuntime, text: &[u8], written: &mut u64) -> Result<(), Unwritten>
+    requires { Given text.now written.old }
+    ensures { written.new ≡ counted (written.old + length text.now) }
 {
-    *written = std::num::wrapping_add_u64(*written, used as u64);
-    program_pieces::write_out(rt, out, used)
+    *written = written.wrapping_add(text.len() as u64);
+    program_pieces::write_out(rt, text)
 }
 
 // Takes a chunk of the input, and writes out what it gives, in as many pieces as the output's room asks for.
@@ -104,7 +96,7 @@ fn take_all(
     line: &mut [u8],
     out: &mut [u8],
     written: &mut u64,
-) -> Kept
+) -> Result<usize, Unwritten>
     requires kept_in_bounds { kept ≤ length line.old }
     requires roomy { Roomy line.old out.old }
     requires known { Known p.old (take kept line.old) written.old }
@@ -114,13 +106,11 @@ fn take_all(
     let mut start = 0;
     while start < chunk.len() {
         let progress = take_lines(p, &chunk[start..], filled, line, out);
-        if !write_piece(rt, out, progress.used, written) {
-            return Kept::Unwritten;
-        }
+        write_piece(rt, &out[..progress.used], written)?;
         filled = progress.kept;
         start += progress.taken;
     }
-    Kept::Characters(filled)
+    Ok(filled)
 }
 
 // Answers what stands behind the last line feed, at the start of the output's room, and answers how long the answer is.
@@ -143,19 +133,41 @@ fn finish(
     line: &[u8],
     out: &mut [u8],
     written: &mut u64,
-)
+) -> Result<(), Unwritten>
     requires kept_in_bounds { kept ≤ length line.now }
     requires roomy { Roomy line.now out.old }
     requires known { Known p.old (take kept line.now) written.old }
     ensures { Reached p.new }
 {
     let used = answer_last(p, kept, line, out);
-    if !write_piece(rt, out, used, written) {
-        say_unwritten(rt);
-    }
+    write_piece(rt, &out[..used], written)
 }
 
-// Answers each line of standard input, in the rooms that are lent. There are more turns than any run uses up.
+// Answers each line of standard input, until a read or a write fails. There are more turns than any run uses up.
+fn answer_each(
+    rt: &HostRuntime,
+    p: &mut [u32],
+    chunk: &mut [u8],
+    line: &mut [u8],
+    out: &mut [u8],
+) -> Result<(), Stopped>
+    requires p_value { p.old ≡ first_picture }
+    requires roomy { Roomy line.old out.old }
+    ensures { Reached p.new }
+{
+    let mut kept = 0;
+    let mut written = 0;
+    for _ in 0..u64::MAX {
+        let got = program_pieces::read_in(rt, chunk)?;
+        if got == 0 {
+            break;
+        }
+        kept = take_all(rt, p, &chunk[..got], kept, line, out, &mut written)?;
+    }
+    Ok(finish(rt, p, kept, line, out, &mut written)?)
+}
+
+// Answers each line of standard input, in the rooms that are lent, and says so where a read or a write fails.
 pub fn answer_all(
     rt: &HostRuntime,
     p: &mut [u32],
@@ -167,21 +179,7 @@ pub fn answer_all(
     requires roomy { Roomy line.old out.old }
     ensures { Reached p.new }
 {
-    let mut kept = 0;
-    let mut written = 0;
-    let mut turns = u64::MAX;
-    while 0 < turns {
-        let Input::Characters(got) = program_pieces::read_in(rt, chunk) else {
-            say_unread(rt);
-            return;
-        };
-        let Kept::Characters(filled) = take_all(rt, p, &chunk[..got], kept, line, out, &mut written)
-        else {
-            say_unwritten(rt);
-            return;
-        };
-        kept = filled;
-        turns = program_pieces::turns_after(turns, got);
+    if let Err(stopped) = answer_each(rt, p, chunk, line, out) {
+        program_pieces::say(rt, "session", stopped);
     }
-    finish(rt, p, kept, line, out, &mut written);
 }

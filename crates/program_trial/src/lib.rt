@@ -8,13 +8,12 @@ mod running;
 mod telling;
 mod trying;
 
-pub use room::{answer_room, line_room};
+pub use room::{ANSWER, LINE};
 pub use running::answer_all;
 
-// What a call answered: its key's bits, and the number where it was a pick.
+// What a call answered: its key's bits, and the number that a pick gave.
 #[derive(Clone, Copy)]
 pub struct Answer {
     pub key: u32,
-    pub number: u32,
-    pub is_pick: bool,
+    pub number: Option<u32>,
 }

@@ -1,18 +1,15 @@
 use crate::Answer;
 
 // The number of a pick, as a field.
-fn write_pick(answer: Answer, out: &mut [u8], used: usize) -> usize {
-    if answer.is_pick {
-        let start = program_writing::write_character(out, used, b' ');
-        return program_writing::write_number(out, start, 8, answer.number);
-    }
-    used
+fn write_pick(number: u32, out: &mut [u8], used: usize) -> usize {
+    let start = program_writing::write_character(out, used, b' ');
+    program_writing::write_number(out, start, 8, number)
 }
 
 // The registers, as a field.
 fn write_registers(registers: &[u32], out: &mut [u8], used: usize) -> usize {
     let start = program_writing::write_character(out, used, b' ');
-    if registers.len() == 0 {
+    if registers.is_empty() {
         return program_writing::write_character(out, start, b'-');
     }
     program_writing::write_words(out, start, registers)
@@ -30,14 +27,11 @@ fn write_change(mark: u8, index: usize, longword: u32, out: &mut [u8], used: usi
 fn write_changes(p: &[u32], before: &[u32], out: &mut [u8], used: usize) -> usize {
     let mut place = used;
     let mut mark = b' ';
-    let mut i = 0;
-    while i < p.len() {
-        let longword = words::word(p, i);
-        if longword != words::word(before, i) {
-            place = write_change(mark, i, longword, out, place);
+    for (index, (longword, was)) in p.iter().zip(before).enumerate() {
+        if longword != was {
+            place = write_change(mark, index, *longword, out, place);
             mark = b',';
         }
-        i += 1;
     }
     if mark == b',' {
         return place;
@@ -49,7 +43,10 @@ fn write_changes(p: &[u32], before: &[u32], out: &mut [u8], used: usize) -> usiz
 // The key, the number of a pick and the registers.
 fn write_head(answer: Answer, registers: &[u32], out: &mut [u8]) -> usize {
     let keyed = program_writing::write_number(out, 0, 8, answer.key);
-    let picked = write_pick(answer, out, keyed);
+    let picked = match answer.number {
+        Some(number) => write_pick(number, out, keyed),
+        None => keyed,
+    };
     write_registers(registers, out, picked)
 }
 

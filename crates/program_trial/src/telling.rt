@@ -1,6 +1,5 @@
-ghost use Rattle.std.specs.Prelude.{◌≡◌, length};
-
-use program_fields::Asked;
+// The most bytes that an error text has: a line's pairs of characters.
+const LONGEST_TEXT: usize = program_fields::LONGEST_LINE / 2;
 
 // Answers a line that is no trial.
 pub fn write_refusal(out: &mut [u8]) -> usize {
@@ -11,17 +10,15 @@ pub fn write_refusal(out: &mut [u8]) -> usize {
 // The bytes of a text, two digits each.
 fn write_bytes(text: &[u8], out: &mut [u8], used: usize) -> usize {
     let mut place = used;
-    let mut i = 0;
-    while i < text.len() {
-        place = program_writing::write_number(out, place, 2, text[i] as u32);
-        i += 1;
+    for byte in text {
+        place = program_writing::write_number(out, place, 2, u32::from(*byte));
     }
     place
 }
 
 // A text, as a field.
 fn write_text(text: &[u8], out: &mut [u8], used: usize) -> usize {
-    if text.len() == 0 {
+    if text.is_empty() {
         return program_writing::write_character(out, used, b'-');
     }
     write_bytes(text, out, used)
@@ -43,19 +40,17 @@ fn tell<'a>(key: u32, system: &'a [u8], driver: &'a [u8], out: &mut [u8]) -> usi
     write_error(words::bits_of(answered), text, out)
 }
 
-// Room for an error text: as many bytes as a line may have pairs of characters.
-fn text_room() -> [u8; 150000]
-    ensures { 150000 ≡ length result }
-{
-    [0; 150000]
-}
-
 // Answers a line that asks for an error text.
 pub fn answer_error(line: &[u8], out: &mut [u8]) -> usize {
-    let mut system = text_room();
-    let mut driver = text_room();
+    let mut system = [0; LONGEST_TEXT];
+    let mut driver = [0; LONGEST_TEXT];
     match program_fields::read_asked(line, &mut system, &mut driver) {
-        Asked::Text(key, first, last) => tell(key, &system[..first], &driver[..last], out),
-        Asked::Bad => write_refusal(out),
+        Some(asked) => tell(
+            asked.key,
+            &system[..asked.system],
+            &driver[..asked.driver],
+            out,
+        ),
+        None => write_refusal(out),
     }
 }

@@ -5,14 +5,13 @@ use program_fields::{Call, Trial};
 fn answer_of(key: i32) -> Answer {
     Answer {
         key: words::bits_of(key),
-        number: 0,
-        is_pick: false,
+        number: None,
     }
 }
 
 // Makes a call by its trap, with the name that stands in the call field.
 fn make_trap(p: &mut [u32], trap: u32, registers: &mut [u32], field: &[u8]) -> Answer {
-    let mut name = room::name_room();
+    let mut name = [0; room::NAME];
     let count = program_fields::read_name(field, &mut name);
     answer_of(manager::call(p, trap, registers, &name[..count]))
 }
@@ -22,8 +21,7 @@ fn make_pick(p: &mut [u32]) -> Answer {
     let picked = manager::pick(p);
     Answer {
         key: words::bits_of(picked.key),
-        number: picked.number,
-        is_pick: true,
+        number: Some(picked.number),
     }
 }
 
@@ -33,46 +31,49 @@ fn make_call(p: &mut [u32], call: Call, registers: &mut [u32], field: &[u8]) -> 
         Call::Trap(trap) => make_trap(p, trap, registers, field),
         Call::Pick => make_pick(p),
         Call::Tick => answer_of(manager::tick(p)),
-        Call::Fresh(size, heap) => answer_of(manager::fresh(p, size, heap)),
+        Call::Fresh { size, heap } => answer_of(manager::fresh(p, size, heap)),
     }
 }
 
-// Puts the longwords of a picture into another room, as far as that goes.
-fn copy(p: &[u32], room: &mut [u32]) {
-    let mut i = 0;
-    while i < p.len() {
-        words::put(room, i, words::word(p, i));
-        i += 1;
-    }
-}
-
-// Makes a trial's call and answers it.
+// Makes a trial's call on a picture, of which `before` is a copy, and answers it.
 fn try_call(
     p: &mut [u32],
+    before: &[u32],
     call: Call,
     registers: &mut [u32],
     field: &[u8],
     out: &mut [u8],
 ) -> usize {
-    let mut before = room::picture_room();
-    copy(p, &mut before);
     let answer = make_call(p, call, registers, field);
-    report::write_answer(p, &before, answer, registers, out)
+    report::write_answer(p, before, answer, registers, out)
 }
 
 // Answers a line that asks for a call or a report.
 pub fn answer_call(line: &[u8], out: &mut [u8]) -> usize {
-    let mut p = room::picture_room();
-    let mut registers = room::registers_room();
+    let mut p = [0; room::PICTURE];
+    let mut registers = [0; room::REGISTERS];
     match program_fields::read_trial(&mut p, line, &mut registers) {
-        Trial::Good(call, first, count, size) => try_call(
-            &mut p[..size],
-            call,
-            &mut registers[..count],
-            &line[..first],
-            out,
-        ),
-        Trial::Report(top, lent, size) => reporting::answer_report(&p[..size], top, lent, out),
-        Trial::Bad => telling::write_refusal(out),
+        Some(
+            Trial::Call {
+                call,
+                characters,
+                registers: count,
+                size,
+            },
+        ) => {
+            let before = p;
+            try_call(
+                &mut p[..size],
+                &before,
+                call,
+                &mut registers[..count],
+                &line[..characters],
+                out,
+            )
+        }
+        Some(Trial::Report { top, lent, size }) => {
+            reporting::answer_report(&p[..size], top, lent, out)
+        }
+        None => telling::write_refusal(out),
     }
 }

@@ -1,6 +1,7 @@
 -- Lines, one at a time.
-use Prim.Native.Nat.{ℕ, zero, suc}
-use mathlib.Core.Path.{◌≡◌, refl, ap}
+use Prim.Native.Nat.{ℕ, zero, suc, ◌-◌, ◌<◌}
+use mathlib.Core.Path.{◌≡◌, refl, ap, ◌∙◌}
+use native.Mathlib.Omega.{arith}
 use mathlib.Core.List.{List, [], ◌∷◌}
 use lib.ListN.{length}
 use Rattle.report_lines.specs.Line.{line}
@@ -14,6 +15,12 @@ module _ (p : List ℕ) (m t : ℕ) where
   pub no_lines : (n : ℕ) → lines_from 0 p m t n ≡ []
   unfolding lines_from
   no_lines n = refl
+
+  pub lines_some : (i n : ℕ) → 0 < i → lines_from i p m t n ≡ line p t n ∷ lines_from (i - 1) p m t (next p m n)
+  lines_some i n l = let e : i ≡ suc (i - 1) = omega arith in ap (λ (j : ℕ). lines_from j p m t n) e ∙ lines_more (i - 1) n
+
+  pub lines_none : (i n : ℕ) → i ≡ 0 → lines_from i p m t n ≡ []
+  lines_none i n e = rw e (no_lines n)
 
   -- as many lines as were asked for
   pub length_lines : (i n : ℕ) → length (lines_from i p m t n) ≡ i

@@ -1,14 +1,15 @@
 // The lines of a report of a tree: where it begins, and one line with the number of the next member.
 #![tactic(auto)]
 
-ghost use Rattle.std.specs.Prelude.{◌≡◌, ◌≤◌, ◌<◌};
+ghost use Rattle.std.specs.Prelude.{◌≡◌, ◌<◌};
+ghost use Rattle.std.specs.Iterator.{YieldsFirst, item_count};
 ghost use Rattle.picture.specs.Numbers.{tag_weight};
 ghost use Rattle.report_lines.specs.Line.{depth, line};
-ghost use Rattle.report_lines.specs.Order.{size, next, lines_from};
-ghost use Rattle.report_lines.specs.Report.{report_key, report_lines};
+ghost use Rattle.report_lines.specs.Order.{size, next};
+ghost use Rattle.report_lines.specs.Report.{lines_left, Begins};
 
 use asking::next_member;
-use picture::{JOBS, JobFound, JobNumber, job_at};
+use picture::{JOBS, JobNumber, Refusal, entry_at};
 use words::word;
 
 // A job of the tree: its number, its owner's, its depth below the top, its priority, and whether it is suspended.
@@ -21,13 +22,34 @@ pub struct JobLine {
     pub suspended: bool,
 }
 
-// Where a report begins: its key, how many lines it has, the positions of the members and that of the top.
-#[derive(Clone, Copy)]
-pub struct Beginning {
-    pub key: i32,
+// The lines of a report that are still to come: how many they are, the picture, the positions of the members and that of the top, and the
+// number of the member whose line is the next.
+#[derive(Drop)]
+pub struct Lines<'a> {
     pub count: usize,
-    pub members: u64,
-    pub top: usize,
+    picture: &'a [u32],
+    members: u64,
+    top: usize,
+    number: u32,
+}
+
+impl<'a> Iterator for Lines<'a> {
+    type Item = JobLine;
+
+    ghost next_gives = { YieldsFirst lines_left };
+
+    ghost remaining = { item_count lines_left };
+
+    #[tactic(auto, using(crate::proofs::Order::lines_some, crate::proofs::Order::lines_none))]
+    fn next(&mut self) -> Option<JobLine> {
+        if self.count == 0 {
+            return None;
+        }
+        let step = line_of(self.picture, self.members, self.top, self.number);
+        self.number = step.next;
+        self.count -= 1;
+        Some(step.line)
+    }
 }
 
 // A line, and the number of the member behind it.
@@ -43,9 +65,7 @@ fn depth_of(p: &[u32], t: usize, k: usize) -> u32
     ensures { result ≡ depth p.now t k }
 {
     let mut j = k;
-    let mut n: u32 = 0;
-    let mut left = JOBS;
-    while 0 < left {
+    for n in 0..JOBS as u32 {
         if j == t {
             return n;
         }
@@ -54,10 +74,8 @@ fn depth_of(p: &[u32], t: usize, k: usize) -> u32
             picture::FIRST_JOB + picture::JOB_WIDTH * j + picture::OWNER,
         );
         j = picture::position_of(owner);
-        n += 1;
-        left -= 1;
     }
-    n
+    JOBS as u32
 }
 
 // How many members a set has.
@@ -73,39 +91,28 @@ fn size_of(members: u64) -> usize
     n
 }
 
-// A report that is refused has no line.
-fn refused(key: i32) -> Beginning
-    ensures { (result.key ≡ key) × (result.count ≡ 0) }
-{
-    Beginning {
-        key: key,
-        count: 0,
-        members: 0,
-        top: 0,
-    }
-}
-
 // Where the report of the tree of the job `top` begins, in a table of so many lines.
-pub fn begin(p: &[u32], top: u32, lent: usize) -> Beginning
-    ensures { (result.key ≡ report_key p.now top lent) × ((result.count ≤ lent) × (lines_from result.count p.now result.members result.top top ≡ report_lines p.now top lent)) }
+pub fn begin(p: &[u32], top: u32, lent: usize) -> Result<Lines<'_>, Refusal>
+    ensures { Begins p.now top lent result }
 {
     if !sound::is_sound(p) {
-        return refused(picture::NOT_SOUND);
+        return Err(Refusal::NotSound);
     }
-    let JobFound::At(t) = job_at(p, JobNumber(top)) else {
-        return refused(picture::INVALID_JOB);
+    let Some(t) = entry_at(p, JobNumber(top)) else {
+        return Err(Refusal::InvalidJob);
     };
     let members = tree::tree_of(p, t);
     let count = size_of(members);
     if lent < count {
-        return refused(picture::BUFFER_OVERFLOW);
+        return Err(Refusal::BufferOverflow);
     }
-    Beginning {
-        key: picture::DONE,
-        count: count,
-        members: members,
+    Ok(Lines {
+        count,
+        picture: p,
+        members,
         top: t,
-    }
+        number: top,
+    })
 }
 
 // The line of the job of this number in the tree of the job at position t, and the next member's number.

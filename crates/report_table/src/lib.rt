@@ -3,11 +3,11 @@
 
 ghost use Rattle.std.specs.Prelude.{◌≡◌, ◌≤◌, length};
 ghost use Rattle.std.proofs.lemmas.List.Edits.{sets};
-ghost use Rattle.report_lines.specs.Report.{report_lines as reportLines};
+ghost use Rattle.report_lines.specs.Report.{report_lines as reportLines, lines_left};
 ghost use Rattle.report_table.specs.Answer.{report_answer};
 ghost use Rattle.report_table.specs.Longwords.{line_longwords};
 
-use report_lines::JobLine;
+use report_lines::{JobLine, Lines};
 
 // What a report answers: its key, and how many lines were written.
 #[derive(Clone, Copy)]
@@ -17,21 +17,33 @@ pub struct Report {
 }
 
 // The tree of the job `top`: a line for each member in the table, whose later lines keep what they held.
+#[tactic(auto, unfolding(crate::specs::Answer::report_answer))]
 pub fn report_tree(p: &[u32], top: u32, table: &mut [JobLine]) -> Report
     ensures { (result ≡ report_answer p.now top (length table.old)) × (table.new ≡ sets table.old 0 (reportLines p.now top (length table.old))) }
 {
-    let begun = report_lines::begin(p, top, table.len());
-    let mut number = top;
-    let mut i = 0;
-    while i < begun.count {
-        let step = report_lines::line_of(p, begun.members, begun.top, number);
-        table[i] = step.line;
-        number = step.next;
-        i += 1;
+    match report_lines::begin(p, top, table.len()) {
+        Ok(lines) => {
+            let count = lines.count;
+            put_lines(table, lines);
+            Report {
+                key: picture::DONE,
+                count,
+            }
+        }
+        Err(refusal) => Report {
+            key: i32::from(refusal),
+            count: 0,
+        },
     }
-    Report {
-        key: begun.key,
-        count: begun.count,
+}
+
+// The lines, stored from the table's start on.
+fn put_lines(table: &mut [JobLine], lines: Lines<'_>)
+    requires { length (lines_left lines) ≤ length table.old }
+    ensures { table.new ≡ sets table.old 0 (lines_left lines.entry) }
+{
+    for (i, line) in lines.enumerate() {
+        table[i] = line;
     }
 }
 

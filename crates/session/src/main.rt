@@ -7,10 +7,10 @@ const SIZE: u32 = 1024;
 const HEAP: u32 = 256;
 
 fn main(rt: HostRuntime) {
-    let mut p = program_session::picture_room();
-    let mut chunk = program_pieces::large_room();
-    let mut line = program_session::line_room();
-    let mut out = program_pieces::large_room();
+    let mut p = [0; program_session::PICTURE];
+    let mut chunk = [0; program_pieces::LARGE];
+    let mut line = [0; program_session::LINE];
+    let mut out = [0; program_pieces::LARGE];
     manager::fresh(&mut p, SIZE, HEAP);
     program_session::answer_all(&rt, &mut p, &mut chunk, &mut line, &mut out);
 }

@@ -20,6 +20,7 @@ pub fn area_of(t: Table) -> Area
 }
 
 // The rules of a table and of its area: every record and every block is fine, and there are as many entries as blocks.
+#[tactic(auto, unfolding(crate::specs::Test::half_fine))]
 pub fn is_half_fine(p: &[u32], t: Table) -> bool
     requires { whole_fine p.now ≡ true }
     ensures { result ≡ half_fine p.now t }
@@ -41,11 +42,7 @@ pub fn is_half_fine(p: &[u32], t: Table) -> bool
 pub fn is_sound(p: &[u32]) -> bool
     ensures { result ≡ sound p.now }
 {
-    if !sound_whole::is_whole_fine(p) {
-        return false;
-    }
-    if !is_half_fine(p, Table::Jobs) {
-        return false;
-    }
-    is_half_fine(p, Table::Channels)
+    sound_whole::is_whole_fine(p)
+        && is_half_fine(p, Table::Jobs)
+        && is_half_fine(p, Table::Channels)
 }

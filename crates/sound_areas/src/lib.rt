@@ -15,6 +15,7 @@ use words::word;
 pub const LONGEST_QUEUE: usize = 32766;
 
 // A length is a multiple of 16, at least 16.
+#[tactic(auto, unfolding(crate::specs::Rules::length_whole))]
 pub fn length_whole(p: &[u32], i: usize) -> bool
     requires { i < length p.now }
     ensures { result ≡ length_whole p.now i }
@@ -24,6 +25,7 @@ pub fn length_whole(p: &[u32], i: usize) -> bool
 }
 
 // A free header is length, 0, 0, 0.
+#[tactic(auto, unfolding(crate::specs::Rules::free_blank))]
 pub fn free_blank(p: &[u32], i: usize) -> bool
     requires { i + start_field < length p.now }
     ensures { result ≡ free_blank p.now i }
@@ -32,6 +34,7 @@ pub fn free_blank(p: &[u32], i: usize) -> bool
 }
 
 // A queue's room has its length, index of the oldest byte, count and 0.
+#[tactic(auto, unfolding(crate::specs::Rules::queue_room))]
 pub fn queue_room(p: &[u32], i: usize) -> bool
     requires { i < 8589934592 }
     ensures { result ≡ queue_room p.now i }
@@ -48,6 +51,7 @@ pub fn queue_room(p: &[u32], i: usize) -> bool
 }
 
 // The block ends within its area.
+#[tactic(auto, unfolding(crate::specs::Rules::tiles))]
 pub fn is_within(p: &[u32], e: usize, i: usize) -> bool
     requires { (i ≤ e) × (i < length p.now) }
     ensures { result ≡ tiles p.now e i }
@@ -56,6 +60,7 @@ pub fn is_within(p: &[u32], e: usize, i: usize) -> bool
 }
 
 // No free block follows a free block.
+#[tactic(auto, unfolding(crate::specs::Rules::untouched))]
 pub fn is_untouched(p: &[u32], e: usize, i: usize) -> bool
     requires { (i < e) × (e < 8589934592) }
     ensures { result ≡ untouched p.now e i }

@@ -31,6 +31,7 @@ pub fn is_entry_fine(p: &[u32], t: Table, k: usize) -> bool
 }
 
 // The rules of job 0; any other job keeps them.
+#[tactic(auto, unfolding(crate::specs::Entries::zero_fine, sound_records::specs::Rules::zero_exists, sound_records::specs::Rules::zero_base, sound_records::specs::Rules::zero_unowned))]
 pub fn is_zero_fine(p: &[u32], k: usize) -> bool
     requires { (heap_base ≤ length p.now) × ((k < positions Jobs) × (used p.now Jobs k ≡ true)) }
     ensures { result ≡ zero_fine p.now k }
@@ -68,6 +69,7 @@ pub fn is_channel_fine(p: &[u32], k: usize) -> bool
 }
 
 // The rules of a record in use, but that its tag is used once.
+#[tactic(auto, unfolding(crate::specs::Entries::live_fine))]
 pub fn is_live_fine(p: &[u32], t: Table, k: usize) -> bool
     requires { (heap_base ≤ length p.now) × ((k < positions t) × (used p.now t k ≡ true)) }
     ensures { result ≡ live_fine p.now t k }
@@ -79,6 +81,7 @@ pub fn is_live_fine(p: &[u32], t: Table, k: usize) -> bool
 }
 
 // A record not in use is all zero, and not job 0's.
+#[tactic(auto, unfolding(crate::specs::Entries::blank_fine))]
 pub fn is_blank_fine(p: &[u32], t: Table, k: usize) -> bool
     requires { (heap_base ≤ length p.now) × (k < positions t) }
     ensures { result ≡ blank_fine p.now t k }
@@ -91,6 +94,7 @@ pub fn is_blank_fine(p: &[u32], t: Table, k: usize) -> bool
 
 // No lower position in use has the same tag. The note under the tag's last six bits says whether none is looked at, or one, or all. It has position k
 // afterwards.
+#[tactic(auto, unfolding(crate::specs::Entries::told_once, crate::specs::Entries::with_note))]
 pub fn is_tag_once(p: &[u32], t: Table, k: usize, seen: &mut [Note; 64]) -> bool
     requires { (heap_base ≤ length p.now) × (k < positions t) }
     ensures value { result ≡ told_once p.now t k (note_of p.now t k seen.old) }

@@ -13,6 +13,7 @@ use picture_tables::{field_of, is_live, timeout_of};
 use sound_records::tag_at;
 
 // Job 0 has block base 0.
+#[tactic(auto, unfolding(sound_records::specs::Rules::zero_base))]
 pub fn zero_base(p: &[u32], k: usize) -> bool
     requires { (heap_base ≤ length p.now) × (k < positions Jobs) }
     ensures { result ≡ zero_base p.now k }
@@ -21,6 +22,7 @@ pub fn zero_base(p: &[u32], k: usize) -> bool
 }
 
 // Priority 0 to 127.
+#[tactic(auto, unfolding(sound_records::specs::Rules::priority_within))]
 pub fn priority_within(p: &[u32], k: usize) -> bool
     requires { (heap_base ≤ length p.now) × (k < positions Jobs) }
     ensures { result ≡ priority_within p.now k }
@@ -29,6 +31,7 @@ pub fn priority_within(p: &[u32], k: usize) -> bool
 }
 
 // Accumulated 0 to 8,191.
+#[tactic(auto, unfolding(sound_records::specs::Rules::accumulated_within))]
 pub fn accumulated_within(p: &[u32], k: usize) -> bool
     requires { (heap_base ≤ length p.now) × (k < positions Jobs) }
     ensures { result ≡ accumulated_within p.now k }
@@ -37,6 +40,7 @@ pub fn accumulated_within(p: &[u32], k: usize) -> bool
 }
 
 // Timeout 0 to 32,767, or -1.
+#[tactic(auto, unfolding(sound_records::specs::Rules::timeout_within))]
 pub fn timeout_within(p: &[u32], k: usize) -> bool
     requires { (heap_base ≤ length p.now) × (k < positions Jobs) }
     ensures { result ≡ timeout_within p.now k }
@@ -46,6 +50,7 @@ pub fn timeout_within(p: &[u32], k: usize) -> bool
 }
 
 // Job 0, in use, has number 0.
+#[tactic(auto, unfolding(sound_records::specs::Rules::zero_exists))]
 pub fn zero_exists(p: &[u32], k: usize) -> bool
     requires { (heap_base ≤ length p.now) × ((k < positions Jobs) × (used p.now Jobs k ≡ true)) }
     ensures { result ≡ zero_exists p.now k }
@@ -54,6 +59,7 @@ pub fn zero_exists(p: &[u32], k: usize) -> bool
 }
 
 // The owner of a job in use has a smaller tag.
+#[tactic(auto, unfolding(sound_records::specs::Rules::owner_older))]
 pub fn owner_older(p: &[u32], k: usize) -> bool
     requires { (heap_base ≤ length p.now) × ((k < positions Jobs) × (used p.now Jobs k ≡ true)) }
     ensures { result ≡ owner_older p.now k }
@@ -63,6 +69,7 @@ pub fn owner_older(p: &[u32], k: usize) -> bool
 }
 
 // Job 0 is unowned.
+#[tactic(auto, unfolding(sound_records::specs::Rules::zero_unowned))]
 pub fn zero_unowned(p: &[u32], k: usize) -> bool
     requires { (heap_base ≤ length p.now) × (k < positions Jobs) }
     ensures { result ≡ zero_unowned p.now k }
@@ -71,26 +78,23 @@ pub fn zero_unowned(p: &[u32], k: usize) -> bool
 }
 
 // A job waits for a live job other than 0 or itself, with timeout -1.
+#[tactic(auto, unfolding(sound_records::specs::Rules::wait_allowed))]
 pub fn wait_allowed(p: &[u32], k: usize) -> bool
     requires { (heap_base ≤ length p.now) × (k < positions Jobs) }
     ensures { result ≡ wait_allowed p.now k }
 {
     let waited = field_of(p, Table::Jobs, k, picture::WAIT);
-    if waited == 0 {
-        return true;
-    }
-    is_live(p, Table::Jobs, waited)
-        & ((waited != field_of(p, Table::Jobs, k, picture::NUMBER))
-            & (timeout_of(p, k) == WITHOUT_END))
+    waited == 0
+        || (is_live(p, Table::Jobs, waited)
+            && waited != field_of(p, Table::Jobs, k, picture::NUMBER)
+            && timeout_of(p, k) == WITHOUT_END)
 }
 
 // Accumulated is 0 unless ready.
+#[tactic(auto, unfolding(sound_records::specs::Rules::idle_zero))]
 pub fn idle_zero(p: &[u32], k: usize) -> bool
     requires { (heap_base ≤ length p.now) × (k < positions Jobs) }
     ensures { result ≡ idle_zero p.now k }
 {
-    if field_of(p, Table::Jobs, k, picture::ACCUMULATED) == 0 {
-        return true;
-    }
-    picture_tables::is_ready(p, k)
+    field_of(p, Table::Jobs, k, picture::ACCUMULATED) == 0 || picture_tables::is_ready(p, k)
 }

@@ -21,14 +21,13 @@ pub fn first_of(t: Table) -> usize
 }
 
 // The block at i and the record of position k agree: base and owner.
+#[tactic(auto, unfolding(crate::specs::Agreed::agrees))]
 pub fn is_agreeing(p: &[u32], t: Table, k: usize, i: usize) -> bool
     requires { (heap_base ≤ length p.now) × ((k < positions t) × ((i + holder_field < length p.now) × (i < 8589934592))) }
     ensures { result ≡ agrees p.now t k i }
 {
-    if field_of(p, t, k, picture::BASE) as usize != 4 * i {
-        return false;
-    }
-    field_of(p, t, k, picture::OWNER) == picture::word_at(p, i + blocks::HOLDER)
+    field_of(p, t, k, picture::BASE) as usize == 4 * i
+        && field_of(p, t, k, picture::OWNER) == picture::word_at(p, i + blocks::HOLDER)
 }
 
 // The block at i agrees with some record of the table, which is looked for among all.
@@ -41,13 +40,11 @@ pub fn is_agreed(p: &[u32], t: Table, i: usize) -> bool
 
 // The block at i agrees with the record at the position noted for its place. A byte is a position to look at first: where none was noted it is 0, which is
 // looked at like any other, so `Option<u8>` would add a way out and tell nothing.
+#[tactic(auto, unfolding(crate::specs::Agreed::agreed_as_noted))]
 pub fn is_agreed_as_noted(p: &[u32], t: Table, i: usize, noted: &[u8; 64]) -> bool
     requires { (heap_base ≤ length p.now) × ((i + holder_field < length p.now) × (i < 8589934592)) }
     ensures { result ≡ agreed_as_noted p.now t i noted.now }
 {
     let k = usize::from(noted[i / 4 % 64]);
-    if picture::positions_of(t) <= k {
-        return false;
-    }
-    is_agreeing(p, t, k, i)
+    k < picture::positions_of(t) && is_agreeing(p, t, k, i)
 }

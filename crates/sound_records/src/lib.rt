@@ -22,6 +22,7 @@ pub fn tag_at(p: &[u32], t: Table, k: usize) -> u32
 }
 
 // The record of a channel in use ends in 1.
+#[tactic(auto, unfolding(crate::specs::Rules::ends_in_one))]
 pub fn ends_in_one(p: &[u32], k: usize) -> bool
     requires { (heap_base ≤ length p.now) × ((k < positions Channels) × (used p.now Channels k ≡ true)) }
     ensures { result ≡ ends_in_one p.now k }
@@ -43,6 +44,7 @@ pub fn is_all_zero<const WIDTH: usize>(p: &[u32], t: Table, k: usize) -> bool
 }
 
 // A number in use has its position.
+#[tactic(auto, unfolding(crate::specs::Rules::positioned))]
 pub fn is_positioned(p: &[u32], t: Table, k: usize) -> bool
     requires { (heap_base ≤ length p.now) × ((k < positions t) × (used p.now t k ≡ true)) }
     ensures { result ≡ positioned p.now t k }
@@ -51,6 +53,7 @@ pub fn is_positioned(p: &[u32], t: Table, k: usize) -> bool
 }
 
 // A tag in use is 1 to 32,767, but for job 0.
+#[tactic(auto, unfolding(crate::specs::Rules::tag_within, sound_matching::specs::Match::has_block))]
 pub fn tag_within(p: &[u32], t: Table, k: usize) -> bool
     requires { (heap_base ≤ length p.now) × ((k < positions t) × (used p.now t k ≡ true)) }
     ensures { result ≡ tag_within p.now t k }
@@ -60,14 +63,12 @@ pub fn tag_within(p: &[u32], t: Table, k: usize) -> bool
 }
 
 // Positions j and k have different tags, or j is not in use.
+#[tactic(auto, unfolding(crate::specs::Rules::tags_differ))]
 pub fn tags_differ(p: &[u32], t: Table, k: usize, j: usize) -> bool
     requires { (heap_base ≤ length p.now) × ((k < positions t) × (j < positions t)) }
     ensures { result ≡ tags_differ p.now t k j }
 {
-    if tag_at(p, t, j) != tag_at(p, t, k) {
-        return true;
-    }
-    !is_used(p, t, j)
+    tag_at(p, t, j) != tag_at(p, t, k) || !is_used(p, t, j)
 }
 
 // No lower position in use has the same tag.
@@ -89,19 +90,17 @@ pub fn may_be_unowned(t: Table) -> bool
 }
 
 // The owner of an entry in use is live, or nobody for a job.
+#[tactic(auto, unfolding(crate::specs::Rules::owner_live))]
 pub fn owner_live(p: &[u32], t: Table, k: usize) -> bool
     requires { (heap_base ≤ length p.now) × ((k < positions t) × (used p.now t k ≡ true)) }
     ensures { result ≡ owner_live p.now t k }
 {
     let owner = field_of(p, t, k, picture::OWNER);
-    let unowned = may_be_unowned(t) & (owner == NOBODY);
-    if unowned {
-        return true;
-    }
-    is_live(p, Table::Jobs, owner)
+    (may_be_unowned(t) & (owner == NOBODY)) || is_live(p, Table::Jobs, owner)
 }
 
 // A tag in use doesn't pass the last given.
+#[tactic(auto, unfolding(crate::specs::Rules::tag_given))]
 pub fn tag_given(p: &[u32], t: Table, k: usize) -> bool
     requires { (heap_base ≤ length p.now) × ((k < positions t) × (used p.now t k ≡ true)) }
     ensures { result ≡ tag_given p.now t k }

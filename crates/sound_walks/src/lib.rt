@@ -10,31 +10,27 @@ ghost use Rattle.sound_walks.specs.Walks.{free_fine, held_fine, block_fine, bloc
 use picture::{Table, word_at};
 
 // The rules of a free block, in an area that ends at e.
+#[tactic(auto, unfolding(crate::specs::Walks::free_fine))]
 pub fn is_free_fine(p: &[u32], e: usize, i: usize) -> bool
     requires { (i + start_field < length p.now) × ((i < e) × (e < 8589934592)) }
     ensures { result ≡ free_fine p.now e i }
 {
-    if !sound_areas::free_blank(p, i) {
-        return false;
-    }
-    sound_areas::is_untouched(p, e, i)
+    sound_areas::free_blank(p, i) && sound_areas::is_untouched(p, e, i)
 }
 
 // The rules of a block of the transient area that is not free.
+#[tactic(auto, using(sound_matching::proofs::Agreeing::noted_agreed), unfolding(crate::specs::Walks::held_fine))]
 pub fn is_transient_fine(p: &[u32], i: usize, noted: &[u8; 64]) -> bool
     requires { (heap_base ≤ length p.now) × ((i + start_field < length p.now) × (i < 8589934592)) }
     ensures { result ≡ held_fine p.now Jobs i }
 {
-    if word_at(p, i + blocks::KIND) != blocks::JOB {
-        return false;
-    }
-    if sound_matching::is_agreed_as_noted(p, Table::Jobs, i, noted) {
-        return true;
-    }
-    sound_matching::is_agreed(p, Table::Jobs, i)
+    word_at(p, i + blocks::KIND) == blocks::JOB
+        && (sound_matching::is_agreed_as_noted(p, Table::Jobs, i, noted)
+            || sound_matching::is_agreed(p, Table::Jobs, i))
 }
 
 // The rules of a block of the heap that is not free.
+#[tactic(auto, using(sound_matching::proofs::Agreeing::noted_agreed), unfolding(crate::specs::Walks::held_fine))]
 pub fn is_heap_fine(p: &[u32], i: usize, noted: &[u8; 64]) -> bool
     requires { (heap_base ≤ length p.now) × ((i + start_field < length p.now) × (i < 8589934592)) }
     ensures { result ≡ held_fine p.now Channels i }
@@ -46,19 +42,14 @@ pub fn is_heap_fine(p: &[u32], i: usize, noted: &[u8; 64]) -> bool
     if kind == blocks::PLAIN {
         return picture_tables::is_live(p, Table::Jobs, word_at(p, i + blocks::HOLDER));
     }
-    if kind != blocks::QUEUE {
-        return false;
-    }
-    if !sound_areas::queue_room(p, i) {
-        return false;
-    }
-    if sound_matching::is_agreed_as_noted(p, Table::Channels, i, noted) {
-        return true;
-    }
-    sound_matching::is_agreed(p, Table::Channels, i)
+    kind == blocks::QUEUE
+        && sound_areas::queue_room(p, i)
+        && (sound_matching::is_agreed_as_noted(p, Table::Channels, i, noted)
+            || sound_matching::is_agreed(p, Table::Channels, i))
 }
 
 // The rules of a block of the table's area that is not free.
+#[tactic(auto, unfolding(crate::specs::Walks::held_fine))]
 pub fn is_held_fine(p: &[u32], t: Table, i: usize, noted: &[u8; 64]) -> bool
     requires { (heap_base ≤ length p.now) × ((i + start_field < length p.now) × (i < 8589934592)) }
     ensures { result ≡ held_fine p.now t i }
@@ -70,6 +61,7 @@ pub fn is_held_fine(p: &[u32], t: Table, i: usize, noted: &[u8; 64]) -> bool
 }
 
 // The rules of the block at i of the table's area, which ends at e.
+#[tactic(auto, unfolding(crate::specs::Walks::block_fine))]
 pub fn is_block_fine(p: &[u32], t: Table, e: usize, i: usize, noted: &[u8; 64]) -> bool
     requires { (heap_base ≤ length p.now) × ((i < e) × ((e ≤ length p.now) × (e < 8589934592))) }
     ensures { result ≡ block_fine p.now t e i }

@@ -24,6 +24,7 @@ pub fn heap_within(n: usize, h: usize) -> bool
 }
 
 // Longword 0 holds N, the lent length, and N is within its limits.
+#[tactic(auto, unfolding(crate::specs::Whole::size_stated))]
 pub fn size_stated(p: &[u32]) -> bool
     ensures { result ≡ size_stated p.now }
 {
@@ -31,6 +32,7 @@ pub fn size_stated(p: &[u32]) -> bool
 }
 
 // Longword 7 holds 0.
+#[tactic(auto, unfolding(crate::specs::Whole::seven_zero))]
 pub fn seven_zero(p: &[u32]) -> bool
     ensures { result ≡ seven_zero p.now }
 {
@@ -38,6 +40,7 @@ pub fn seven_zero(p: &[u32]) -> bool
 }
 
 // Longword 4 holds H, and H is within its limits.
+#[tactic(auto, unfolding(crate::specs::Whole::heap_stated))]
 pub fn heap_stated(p: &[u32]) -> bool
     ensures { result ≡ heap_stated p.now }
 {
@@ -48,6 +51,7 @@ pub fn heap_stated(p: &[u32]) -> bool
 }
 
 // The last tag given is at most 32,767.
+#[tactic(auto, unfolding(crate::specs::Whole::last_within))]
 pub fn last_within(p: &[u32], t: Table) -> bool
     ensures { result ≡ last_within p.now t }
 {
@@ -69,6 +73,7 @@ pub fn current_ready(p: &[u32]) -> bool
 }
 
 // The rules of the picture as a whole.
+#[tactic(auto, unfolding(crate::specs::Whole::whole_fine))]
 pub fn is_whole_fine(p: &[u32]) -> bool
     ensures { result ≡ whole_fine p.now }
 {

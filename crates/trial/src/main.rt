@@ -2,8 +2,8 @@
 #![tactic(auto)]
 
 fn main(rt: HostRuntime) {
-    let mut chunk = program_pieces::large_room();
-    let mut line = program_trial::line_room();
-    let mut out = program_trial::answer_room();
+    let mut chunk = [0; program_pieces::LARGE];
+    let mut line = [0; program_trial::LINE];
+    let mut out = [0; program_trial::ANSWER];
     program_trial::answer_all(&rt, &mut chunk, &mut line, &mut out);
 }

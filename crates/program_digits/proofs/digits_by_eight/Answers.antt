@@ -9,7 +9,7 @@ pub loop-k-init : goal.loop-k-init
 loop-k-init c = let a = c.args in let z : a.place + 0 ≡ a.place = omega arith in (omega arith, rw (z, sub-zero))
 
 pub returns-then-not-are_eight : goal.returns-then-not-are_eight
-returns-then-not-are_eight c = c.loop-k.invariant
+returns-then-not-are_eight c = record { bound = c.loop-k.invariant.0; left = c.loop-k.invariant.1 }
 
 pub loop-k-preserved : goal.loop-k-preserved
 loop-k-preserved c =
@@ -17,4 +17,4 @@ loop-k-preserved c =
     (omega arith, d.invariant.1 ∙ eight_more _ _ _ _ c.loop-k-test.true (sym c.are_eight.ensures ∙ c.if-not-are_eight.false))
 
 pub returns : goal.returns
-returns c = c.loop-k.invariant
+returns c = record { bound = c.loop-k.invariant.0; left = c.loop-k.invariant.1 }

@@ -1,7 +1,6 @@
-use mathlib.Core.Path.{sym}
-use Rattle.program_digits.proofs.Reader.{told_ranges}
+use Rattle.std.proofs.Common.{sym, ◌∙◌}
+use Rattle.program_digits.proofs.Reader.{digit_ranges}
 use Rattle.program_digits.proofs.is_digit.Goals as goal
 
--- `program_digits::is_digit` meets its contract: a digit lies in one of three ranges. Assumes nothing.
 pub returns : goal.returns
-returns c = sym (told_ranges c.args.character)
+returns c = c.is_ascii_hexdigit.ensures.value ∙ sym (digit_ranges _)

@@ -1,26 +1,15 @@
-use native.Mathlib.Nat.{sub-zero}
-use mathlib.Core.Path.{refl, sym, ◌∙◌}
-use Prim.Native.Nat.{◌<◌, ◌+◌, ◌*◌}
-use lib.ListN.{length, length-set}
-use Rattle.program_digits.proofs.Reader.{digits_part, digits_inside, numbers_more, numbers_end}
-use native.Mathlib.Omega.{arith}
+use Rattle.std.proofs.Common.{◌*◌, sym, ◌∙◌, arith}
+use Rattle.program_digits.proofs.Reader.{digits_part, digits_inside, numbers_more, numbers_stored}
 use Rattle.program_digits.proofs.read_bytes.Goals as goal
 
-pub loop-k-init : goal.loop-k-init
-loop-k-init c = (omega arith, omega arith, refl, rw sub-zero)
+pub overflow_add-place : goal.overflow_add-place
+overflow_add-place c = omega (arith, digits_inside _ _ _ (2 * c.loop-k.k) c.requires (omega arith))
 
 pub number_at-requires : goal.number_at-requires
-number_at-requires c =
-    let d = c.loop-k in
-    (omega arith, rw d.invariant.1 (digits_part c.args.text.now c.args.place (2 * c.args.count) (2 * d.k) 2 c.requires (omega arith)))
-
-pub overflow_add-i : goal.overflow_add-i
-overflow_add-i c = omega (arith, (let z : c.args.place + (2 * c.loop-k.k + 1) < length c.args.text.now = digits_inside c.args.text.now c.args.place (2 * c.args.count) (2 * c.loop-k.k + 1) c.requires (omega arith) in z))
+number_at-requires c = record { few = omega arith; good = digits_part _ _ _ (2 * c.loop-k.k) 2 c.requires (omega arith) }
 
 pub loop-k-preserved : goal.loop-k-preserved
-loop-k-preserved c =
-    let d = c.loop-k in
-    (omega arith, omega arith, rw c.put_byte.ensures (simp length-set d.invariant.2), d.invariant.3 ∙ numbers_more _ _ _ 2 _ _ c.loop-k-test.true ∙ rw (c.put_byte.ensures, c.number_at.ensures.0))
+loop-k-preserved c = let d = c.loop-k in d.invariant ∙ numbers_more _ _ d.k 2 _ _ (omega arith) ∙ rw (← c.number_at.ensures.value)
 
 pub returns : goal.returns
-returns c = let d = c.loop-k in sym (d.invariant.3 ∙ numbers_end _ _ _ 2 _ _ c.loop-k-test.false)
+returns c = let d = c.loop-k in sym (d.invariant ∙ numbers_stored _ _ d.k 2 _ _ (omega arith))

@@ -1,7 +1,5 @@
-use native.Mathlib.Omega.{arith}
-use mir.Syntax.{w32}
+use Rattle.std.proofs.Common.{[], ◌∷◌, w32, arith}
 use mir.ValLaws.{to_z-of_z}
-use mathlib.Core.List.{[], ◌∷◌}
 use Rattle.words.specs.Signed.{bits}
 use Rattle.manager.specs.Turn.{tick_key, ticking}
 use Rattle.program_replies.proofs.Replies.{put_there}
@@ -10,4 +8,4 @@ use Rattle.program_replies.proofs.tick.Goals as goal
 pub returns : goal.returns
 returns c =
     let t = c.tick-key in
-    rw (c.put.ensures, c.bits_of.ensures, to_z-of_z w32 t.result (record { sfits = t.type_inv }), t.ensures.0, t.ensures.1) (put_there (bits (tick_key c.args.p.now) ∷ []) (ticking c.args.p.now) c.args.registers.now (omega (arith, c.requires)))
+    rw (c.bits_of.ensures, to_z-of_z w32 t.result (record { sfits = t.type_inv }), t.ensures.0, t.ensures.1) (put_there (bits (tick_key c.args.p.now) ∷ []) (ticking c.args.p.now) c.args.registers.now (omega arith))

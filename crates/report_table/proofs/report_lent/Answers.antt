@@ -1,5 +1,4 @@
--- The report is that of the first part of the table, and what stands behind it stays.
-use Rattle.std.proofs.Common.{◌≡◌, sym, ap, ◌∙◌, ℕ, ◌+◌, List, ◌++◌, length, take, drop, arith}
+use Rattle.std.proofs.Common.{◌≡◌, sym, ap, ◌∙◌, ℕ, List, ◌++◌, length, take, drop, arith}
 use borrow.Author.Rules.{rules}
 use lib.ListN.{take-append-drop}
 use lib.Seq.{sets, length-take-le}
@@ -10,6 +9,7 @@ use Rattle.report_table.specs.Answer.{report_answer}
 use Rattle.report_table.proofs.Cut.{sets_front}
 use Rattle.report_table.proofs.report_lent.Goals as goal
 
+-- The report is that of the first part of the table, and what stands behind it stays.
 whole : (p : List ℕ) (top n : ℕ) (xs : List JobLine) → length (take n xs) ≡ n
     → sets (take n xs) 0 (report_lines p top n) ++ drop n xs ≡ sets xs 0 (report_lines p top n)
 whole p top n xs e =

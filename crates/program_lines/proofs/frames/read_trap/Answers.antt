@@ -1,3 +1,4 @@
+use Rattle.std.specs.Prelude.{Some}
 use mathlib.Core.Path.{refl, sym, ap}
 use Rattle.program_digits.proofs.Reader.{digits_part, length_numbers}
 use Rattle.program_lines.specs.declared.Line.TheVariants.{Trap}
@@ -18,7 +19,7 @@ read_bytes-requires c = digits_part c.args.line.now 0 _ 66 _ c.requires (omega a
 pub returns-then-trap-eq2 : goal.returns-then-trap-eq2
 returns-then-trap-eq2 c =
     let a = c.args in
-    told_as _ _ _ _ _ _ _ (trap_named a.trap a.line.now c.if-line-lt-TRAP.false c.if-trap-eq2.true) (record { kind = ap (Trap a.trap) (sym (length_numbers a.line.now 66 2 _)); registers = c.read_words.ensures; name = c.read_bytes.ensures })
+    told_as _ _ _ _ _ _ _ (trap_named a.trap a.line.now c.if-line-lt-TRAP.false c.if-trap-eq2.true) (record { kind = ap (λ k. Some (Trap a.trap k)) (sym (length_numbers a.line.now 66 2 _)); registers = c.read_words.ensures; name = c.read_bytes.ensures })
 
 pub returns-then-line-ne-TRAP : goal.returns-then-line-ne-TRAP
 returns-then-line-ne-TRAP c = told_bad _ _ _ (trap_left_over _ _ c.if-line-lt-TRAP.false c.if-trap-eq2.false c.if-line-ne-TRAP.true)

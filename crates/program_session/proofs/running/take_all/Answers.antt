@@ -1,5 +1,6 @@
 use Rattle.program_session.proofs.Lines.{come_first, piece_held, piece_counts, piece_length, all_held, all_counts}
 use Rattle.program_session.proofs.Known.{known_after, known_gives, known_count}
+use Rattle.std.proofs.lemmas.Result.{err_from_is_err_and}
 use Rattle.std.proofs.Common.{◌≡◌, ◌+◌, ◌-◌, ◌<◌, length, take, drop, sym, refl, ◌∙◌, arith}
 use Rattle.program_session.specs.Pieces.{gives}
 use Rattle.program_session.proofs.running.take_all.Goals as goal
@@ -15,13 +16,14 @@ pub write_piece-requires : goal.write_piece-requires
 write_piece-requires c =
     let d = c.loop-start in
     let t = c.take_lines-progress in
-    record { used_in_bounds = t.ensures.fits; given = known_gives _ _ _ (known_after _ _ _ c.requires.known _ _ _ _ d.invariant.3 d.invariant.7) _ _ t.ensures.puts }
+    known_gives _ _ _ (known_after _ _ _ c.requires.known _ _ _ _ d.invariant.3 d.invariant.7) _ _ t.ensures.puts
 
-pub returns-then-not-write_piece : goal.returns-then-not-write_piece
-returns-then-not-write_piece c =
+pub returns-in_err-write_piece : goal.returns-in_err-write_piece
+returns-in_err-write_piece c =
     let d = c.loop-start in
     let t = c.take_lines-progress in
-    (d.start + t.result.taken, (piece_held _ c.args.chunk.now d.start _ _ d.invariant.3 t.result.taken _ _ t.ensures.holds).pictures)
+    let e = err_from_is_err_and c.from_residual.result c.from_residual.ensures.1 in
+    rw e.1 (d.start + t.result.taken, (piece_held _ c.args.chunk.now d.start _ _ d.invariant.3 t.result.taken _ _ t.ensures.holds).pictures)
 
 pub loop-start-smaller : goal.loop-start-smaller
 loop-start-smaller c =
@@ -37,7 +39,7 @@ loop-start-preserved c =
     let t = c.take_lines-progress in
     let k = t.auto in
     let l : length (take (length c.args.chunk.now - d.start) (drop d.start c.args.chunk.now)) ≡ length c.args.chunk.now - d.start = piece_length c.args.chunk.now d.start in
-    (omega (arith, t.ensures.inside), t.ensures.short, record { for_line = d.invariant.2.for_line ∙ sym k.line; for_answer = omega (arith, d.invariant.2.for_answer, k.out) }, piece_held _ c.args.chunk.now d.start _ _ d.invariant.3 t.result.taken _ _ t.ensures.holds, k.p ∙ d.invariant.4, k.line ∙ d.invariant.5, k.out ∙ d.invariant.6, piece_counts _ c.args.chunk.now d.start _ _ d.invariant.3 t.result.taken _ _ _ _ _ d.invariant.7 t.ensures.puts t.ensures.fits c.write_piece.ensures)
+    (omega (arith, t.ensures.inside), t.ensures.short, record { for_line = d.invariant.2.for_line ∙ sym k.line; for_answer = omega (arith, d.invariant.2.for_answer, k.out) }, piece_held _ c.args.chunk.now d.start _ _ d.invariant.3 t.result.taken _ _ t.ensures.holds, k.p ∙ d.invariant.4, k.line ∙ d.invariant.5, k.out ∙ d.invariant.6, piece_counts _ c.args.chunk.now d.start _ _ d.invariant.3 t.result.taken _ _ _ _ d.invariant.7 t.ensures.puts c.write_piece.ensures)
 
 pub returns : goal.returns
 returns c = let d = c.loop-start in (d.invariant.1, all_held _ _ _ _ _ d.invariant.3 c.loop-start-test.false, all_counts _ _ _ _ _ d.invariant.3 c.loop-start-test.false _ _ d.invariant.7)
