@@ -2,7 +2,7 @@
 use mathlib.Core.Path.{refl}
 use Rattle.words.specs.Words.{clear}
 use Rattle.picture.specs.Records.{with_members}
-use Rattle.picture.specs.Numbers.{job_at, free_position}
+use Rattle.picture.specs.Numbers.{entry_at, free_position}
 use Rattle.sound_facts.proofs.Worked.{computed}
 use Rattle.headers.specs.Header.{header}
 use Rattle.placing.specs.Place.{fits, chosen, split, placed, answer, longer, longest}
@@ -27,7 +27,7 @@ use Rattle.manager.specs.Turn.{pick_picture}
 use Rattle.law_bench.specs.Table.{Helper}
 
 pub helper : Helper
-unfolding computed fresh clear lowest_clear free_position header fits chosen split placed longer longest with_bit without mask job_at answer meant longest_room has_position has_tag recorded counted entered owner_found created job_registers create goes freed absorbed joined run swept climbs in_tree tree each waits woken blanked emptied channel_goes channels_of taken returned ended removal force_remove trap_one call_named checked called outcome with_members preferred chosen_below chosen_job accumulated_after turn_given picked picked_number picked_key set_each pick_picture
+unfolding computed fresh clear lowest_clear free_position header fits chosen split placed longer longest with_bit without mask entry_at answer meant longest_room has_position has_tag recorded counted entered owner_found created job_registers create goes freed absorbed joined run swept climbs in_tree tree each waits woken blanked emptied channel_goes channels_of taken returned ended removal force_remove trap_one call_named checked called outcome with_members preferred chosen_below chosen_job accumulated_after turn_given picked picked_number picked_key set_each pick_picture
 helper = record {
   calls = ((refl, (refl, refl)), ((refl, (refl, refl)), ((refl, (refl, refl)), ((refl, (refl, refl)), tt))));
   desk_told = refl;

@@ -2,7 +2,7 @@
 use mathlib.Core.Path.{refl}
 use Rattle.words.specs.Words.{clear}
 use Rattle.picture.specs.Records.{with_members}
-use Rattle.picture.specs.Numbers.{job_at, free_position}
+use Rattle.picture.specs.Numbers.{entry_at, free_position}
 use Rattle.sound_facts.proofs.Worked.{computed}
 use Rattle.headers.specs.Header.{header}
 use Rattle.placing.specs.Place.{fits, chosen, split, placed, answer, longer, longest}
@@ -27,7 +27,7 @@ use Rattle.law_bench.specs.Table.{picks, Table}
 use Rattle.law_bench.proofs.Helper.{helper}
 
 pub table : Table
-unfolding computed fresh clear lowest_clear free_position header fits chosen split placed longer longest with_bit job_at answer meant longest_room length_good room_registers taken take has_position has_tag recorded counted entered owner_found created job_registers create naming prioritized set_priority open_channel trap_one trap_two call_named checked called key_of number_in letter pipe digit number numbered good named outcome with_members set_up picks preferred chosen_below chosen_job accumulated_after turn_given picked picked_number picked_key set_each pick_answer pick_picture
+unfolding computed fresh clear lowest_clear free_position header fits chosen split placed longer longest with_bit entry_at answer meant longest_room length_good room_registers taken take has_position has_tag recorded counted entered owner_found created job_registers create naming prioritized set_priority open_channel trap_one trap_two call_named checked called key_of number_in letter pipe digit number numbered good named outcome with_members set_up picks preferred chosen_below chosen_job accumulated_after turn_given picked picked_number picked_key set_each pick_answer pick_picture
 table = record {
   calls = ((refl, (refl, refl)), ((refl, (refl, refl)), ((refl, (refl, refl)), ((refl, (refl, refl)), ((refl, (refl, refl)), ((refl, (refl, refl)), ((refl, (refl, refl)), ((refl, (refl, refl)), ((refl, (refl, refl)), ((refl, (refl, refl)), ((refl, (refl, refl)), ((refl, (refl, refl)), tt))))))))))));
   picked = refl;

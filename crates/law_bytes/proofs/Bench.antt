@@ -5,7 +5,7 @@ use mathlib.Core.Bool.{true}
 use mathlib.Core.List.{List, [], ◌∷◌}
 use Rattle.words.specs.Words.{clear}
 use Rattle.picture.specs.Records.{with_members}
-use Rattle.picture.specs.Numbers.{live, job_at, channel_at, free_position}
+use Rattle.picture.specs.Numbers.{live, entry_at, free_position}
 use Rattle.picture.specs.declared.Table.TheVariants.{Channels}
 use Rattle.sound_facts.proofs.Worked.{computed}
 use Rattle.headers.specs.Header.{header}
@@ -48,5 +48,5 @@ record Example : Type 0 where
   wait : bytes_at (run events (fresh 1024 256)) 65536 ≡ 2 ∷ []
 
 example : Example
-unfolding computed fresh called checked call_named trap_two trap_three outcome open_channel meant job_at channel_at key_of good number_in letter pipe digit number numbered named has_position has_tag free_position lowest_clear with_bit with_members fits chosen split placed answer header clear queued channelled opened channel_registers recorded counted entered fetch send immediate weight byte_at with_byte_at ring.round ring.index ring.waits ring.full ring.oldest_byte ring.fetched ring.sent ring.contents
+unfolding computed fresh called checked call_named trap_two trap_three outcome open_channel meant entry_at key_of good number_in letter pipe digit number numbered named has_position has_tag free_position lowest_clear with_bit with_members fits chosen split placed answer header clear queued channelled opened channel_registers recorded counted entered fetch send immediate weight byte_at with_byte_at ring.round ring.index ring.waits ring.full ring.oldest_byte ring.fetched ring.sent ring.contents
 example = record { lives = refl; were_sent = refl; were_fetched = refl; wait = refl }

@@ -1,18 +1,16 @@
 -- A sweep of an area that blocks tile: what the area's blocks are then.
-use Prim.Native.Nat.{ℕ, ◌+◌, ◌/◌, ◌≤◌, ◌<◌}
+use Prim.Native.Nat.{ℕ, ◌+◌, ◌≤◌, ◌<◌}
 use mathlib.Core.Path.{◌≡◌, refl, sym, ap, ◌∙◌}
 use mathlib.Core.Bool.{Bool, true, false, cond, ◌&&◌, ◌||◌}
 use mathlib.Core.List.{List, [], ◌∷◌}
 use mathlib.Core.Logic.{⊎_elim, ◌⊎◌, inl, inr}
 use lib.ListN.{length}
 use native.Mathlib.Omega.{arith}
-use Rattle.words.specs.Words.{word}
-use Rattle.words.specs.Each.{In, total}
+use Rattle.words.specs.Each.{In}
 use Rattle.words.proofs.Tests.{false_true}
 use Rattle.blocks.specs.Header.{size, kind, free, holder, start}
 use Rattle.blocks.specs.Walk.{starts}
-use Rattle.headers.specs.Header.{Outside}
-use Rattle.law_areas.specs.Area.{Tiled, Apart, Blank, bytes, free_size, free_bytes, used_bytes}
+use Rattle.law_areas.specs.Area.{Tiled, Blank, bytes, free_size, free_bytes}
 use Rattle.law_areas.proofs.Row.{total_sum, blocks_fill_the_area, free_and_used}
 use Rattle.freeing.specs.Sweep.{goes, sweep, swept}
 use Rattle.law_freeing.specs.Swept.{given_size, given_bytes, Swept}

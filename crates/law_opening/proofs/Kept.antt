@@ -1,7 +1,7 @@
 -- Opening a channel keeps a sound picture sound, and the number that it gives has a new tag.
-use Prim.Native.Nat.{ℕ, ◌+◌, ◌-◌, ◌*◌, ◌/◌, ◌≤◌, ◌<◌}
-use mathlib.Core.Path.{◌≡◌, refl, sym, ap, ◌∙◌, subst}
-use mathlib.Core.Bool.{Bool, true, false, ◌&&◌}
+use Prim.Native.Nat.{ℕ, ◌+◌, ◌≤◌, ◌<◌}
+use mathlib.Core.Path.{◌≡◌, refl, sym, ap, ◌∙◌}
+use mathlib.Core.Bool.{true, false}
 use mathlib.Core.Logic.{⊎_elim, ◌⊎◌, inl, inr}
 use mathlib.Core.List.{List}
 use lib.Dec.{leb}
@@ -11,23 +11,22 @@ use Rattle.words.specs.Words.{word}
 use Rattle.words.specs.Each.{In}
 use Rattle.words.proofs.Tests.{both, false_true}
 use Rattle.picture.specs.Layout.{last_word, positions, width, first_record}
-use Rattle.picture.specs.Records.{slot, field, number, owner, base, ending, used, base_field, owner_field, ending_field, number_field, members}
+use Rattle.picture.specs.Records.{slot, field, used, base_field, owner_field, ending_field, number_field, members}
 use Rattle.picture.specs.Numbers.{live}
 use Rattle.picture.specs.declared.Table.{Table}
 use Rattle.picture.specs.declared.Table.TheVariants.{Jobs, Channels}
 use Rattle.picture.specs.declared.Area.TheVariants.{Heap, Transient}
 use Rattle.picture.proofs.Records.{used_below}
 use Rattle.picture.proofs.Members.{Spares, holds_low, members_same}
-use Rattle.blocks.specs.Header.{kind, kind_of, queue_kind, free}
+use Rattle.blocks.specs.Header.{kind, kind_of, queue_kind}
 use Rattle.blocks.specs.Walk.{blocks}
 use Rattle.sound_matching.specs.Match.{first, area_of, has_block}
 use Rattle.sound_matching.proofs.Counts.{Matches}
-use Rattle.sound_matching.proofs.Matched.{Matched}
 use Rattle.sound_areas.specs.Rules.{longest_queue}
 use Rattle.sound.specs.Sound.{sound}
-use Rattle.sound_facts.proofs.Sound.{Sizes, Entries, Jobs_fine, Channels_fine, Sound}
+use Rattle.sound_facts.proofs.Sound.{Entries, Channels_fine, Sound}
 use Rattle.sound_facts.proofs.View.{sound_again, has_block_used}
-use Rattle.sound_facts.proofs.Same.{used_same, has_block_same, live_same, Lives, EntriesSame, entries_same}
+use Rattle.sound_facts.proofs.Same.{used_same, has_block_same, live_same, Lives, entries_same}
 use Rattle.sound_facts.proofs.Ages.{Ages, ages_same, ages_then}
 use Rattle.sound_facts.proofs.Jobs.{JobsSame, jobs_live, jobs_age, jobs_kept, current_kept}
 use Rattle.sound_facts.proofs.Sizes.{Fixed, sizes_kept}
@@ -39,7 +38,7 @@ use Rattle.law_entering.proofs.Kept.{field_old, used_here, another, new_or_old, 
 use Rattle.law_blocks.proofs.Moved.{Fine}
 use Rattle.law_blocks.proofs.Change.{change_tiled, change_standing, change_homes}
 use Rattle.law_blocks.proofs.Placing.{None, Only}
-use Rattle.law_blocks.proofs.Matching.{Still, Stands, Rematched, still_matched}
+use Rattle.law_blocks.proofs.Matching.{Still, Rematched, still_matched}
 use Rattle.opening.specs.Effects.{queue_bytes, opened}
 use Rattle.law_opening.proofs.Opened as the
 

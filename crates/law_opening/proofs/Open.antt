@@ -12,7 +12,7 @@ use Rattle.calls.specs.Registers.{D1, meant}
 use Rattle.names.specs.Names.{number_in, named}
 use Rattle.names.proofs.Digits.{number_some, number_small}
 use Rattle.opening.specs.Calls.{open_channel}
-use Rattle.law_opening.proofs.Ways.{Checked, open_channel_ways}
+use Rattle.law_opening.proofs.Ways.{open_channel_ways}
 use Rattle.law_opening.proofs.Kept.{opened_sound, opened_ages}
 
 pub open_channel_keeps_sound : (p d s : List ℕ) → sound p ≡ true → sound (outcome (open_channel s) p d).picture ≡ true

@@ -1,26 +1,25 @@
 -- A channel opened in a sound picture: its entry, its block, and what has changed.
-use Prim.Native.Nat.{ℕ, ◌+◌, ◌-◌, ◌*◌, ◌/◌, ◌%◌, ◌≤◌, ◌<◌}
-use mathlib.Core.Path.{◌≡◌, refl, sym, ap, ◌∙◌, subst}
-use mathlib.Core.Bool.{Bool, true, false}
-use mathlib.Core.Logic.{⊎_elim, ◌⊎◌, inl, inr}
+use Prim.Native.Nat.{ℕ, ◌+◌, ◌/◌, ◌%◌, ◌≤◌, ◌<◌}
+use mathlib.Core.Path.{◌≡◌, sym, ◌∙◌, subst}
+use mathlib.Core.Bool.{true, false}
+use mathlib.Core.Logic.{inl, inr}
 use mathlib.Core.List.{List}
 use lib.ListN.{length, length-set}
 use lib.Seq.{get_or-set_same, get_or-set_other}
 use native.Mathlib.Omega.{arith}
 use borrow.Author.Tests.{ltb-true}
-use Rattle.words.specs.Words.{word, put}
+use Rattle.words.specs.Words.{word}
 use Rattle.words.specs.Each.{In}
 use Rattle.words.proofs.Tests.{false_true}
-use Rattle.picture.specs.Layout.{heap_base, heap_word, size_word, last_word, greatest_tag, positions, width, from, upto, first_record, current_word}
-use Rattle.picture.specs.Records.{slot, field, used, ending_field}
-use Rattle.picture.specs.Numbers.{free_position, live}
-use Rattle.picture.specs.declared.Table.{Table}
+use Rattle.picture.specs.Layout.{heap_base, heap_word, size_word, last_word, greatest_tag, positions, from, upto, first_record, current_word}
+use Rattle.picture.specs.Records.{slot, used, ending_field}
+use Rattle.picture.specs.Numbers.{free_position}
 use Rattle.picture.specs.declared.Table.TheVariants.{Jobs, Channels}
 use Rattle.picture.specs.declared.Area.{Area}
 use Rattle.picture.specs.declared.Area.TheVariants.{Heap}
 use Rattle.picture.proofs.Records.{slot_within}
 use Rattle.picture.proofs.Members.{Holds, Spares, holds_low, spares_past, spares_size, spares_current, spares_heap, spares_last, spares_other, members_same, jobs_apart}
-use Rattle.blocks.specs.Header.{header_width, kind_field, holder_field, start_field, queue_length_field, queue_oldest_field, queue_count_field, queue_zero_field, queue_bytes_field, with_queue_length, size, kind, queue_kind, free, holder, start, queue_length, queue_oldest, queue_count, queue_zero, rounded}
+use Rattle.blocks.specs.Header.{header_width, kind_field, holder_field, start_field, queue_length_field, queue_oldest_field, queue_count_field, queue_zero_field, queue_bytes_field, with_queue_length, size, kind, queue_kind, free, holder, start, queue_length}
 use Rattle.blocks.specs.Walk.{starts, blocks}
 use Rattle.blocks.proofs.Starts.{starts_in}
 use Rattle.headers.specs.Header.{Outside}
@@ -29,7 +28,7 @@ use Rattle.law_placing.specs.Placed.{Placed}
 use Rattle.placing.proofs.Chosen.{Chosen}
 use Rattle.sound_areas.specs.Rules.{longest_queue}
 use Rattle.sound.specs.Sound.{sound}
-use Rattle.sound_facts.proofs.Sound.{Sizes, Queue, Sound}
+use Rattle.sound_facts.proofs.Sound.{Queue, Sound}
 use Rattle.sound_facts.proofs.View.{view}
 use Rattle.sound_facts.proofs.Same.{starts_between, within}
 use Rattle.rooms.specs.Room.{spot, header_byte}

@@ -1,21 +1,20 @@
 -- A change to the blocks of an area, and then to the room of a new block: the same change.
-use Prim.Native.Nat.{ℕ, ◌+◌, ◌-◌, ◌/◌, ◌≤◌, ◌<◌}
-use mathlib.Core.Path.{◌≡◌, refl, sym, ap, ◌∙◌, subst}
-use mathlib.Core.Bool.{Bool, true, false}
-use mathlib.Core.Logic.{⊎_elim, ◌⊎◌, inl, inr}
+use Prim.Native.Nat.{ℕ, ◌+◌, ◌/◌, ◌≤◌, ◌<◌}
+use mathlib.Core.Path.{◌≡◌, sym, ap, ◌∙◌, subst}
+use mathlib.Core.Bool.{false}
+use mathlib.Core.Logic.{⊎_elim, inl, inr}
 use mathlib.Core.List.{List}
 use native.Mathlib.Omega.{arith}
 use Rattle.words.specs.Words.{word}
 use Rattle.words.specs.Each.{In}
 use Rattle.words.proofs.Tests.{lt_or_ge}
-use Rattle.picture.specs.Layout.{heap_base, from, upto}
+use Rattle.picture.specs.Layout.{from, upto}
 use Rattle.picture.specs.declared.Area.{Area}
 use Rattle.blocks.specs.Header.{header_width, size, free}
 use Rattle.blocks.specs.Walk.{good, next, starts, blocks}
-use Rattle.blocks.proofs.Walk.{Good, is_good, next_good}
+use Rattle.blocks.proofs.Walk.{is_good, next_good}
 use Rattle.blocks.proofs.Starts.{starts_in, next_same}
 use Rattle.headers.specs.Header.{Outside}
-use Rattle.headers.proofs.Header.{same_or_not}
 use Rattle.sound_facts.proofs.Same.{within, next_in}
 use Rattle.law_blocks.proofs.Moved.{Kept}
 use Rattle.law_blocks.proofs.Change.{Change}

@@ -3,7 +3,7 @@ use mathlib.Core.Path.{refl}
 use Rattle.words.specs.Words.{clear}
 use Rattle.masks.specs.Masks.{with_bit, mask}
 use Rattle.picture.specs.Records.{members, with_members, used}
-use Rattle.picture.specs.Numbers.{live, job_at}
+use Rattle.picture.specs.Numbers.{live, entry_at}
 use Rattle.sound_facts.proofs.Worked.{computed}
 use Rattle.fresh.specs.Fresh.{fresh}
 use Rattle.headers.specs.Header.{header}
@@ -29,7 +29,7 @@ use Rattle.program_session.specs.Session.{first_picture, line_text, line_picture
 use Rattle.law_session.specs.Case.{WholeCase, NoInput, EmptyLine, ReportOfJobZero, ReportOfNobody, LineAtEnd}
 
 pub whole_case : WholeCase
-unfolding computed fresh clear header fits chosen split placed answer outcome meant length_good room_registers taken take with_members job_at set_each preferred chosen_below chosen_job accumulated_after turn_given picked picked_number picked_key trap_one call_named checked called pick_answer pick_picture digit digits number numbers capital spelled spelled_words answer_text answers_text first_picture line_text line_picture lines texts session alone trapped frame framed
+unfolding computed fresh clear header fits chosen split placed answer outcome meant length_good room_registers taken take with_members entry_at set_each preferred chosen_below chosen_job accumulated_after turn_given picked picked_number picked_key trap_one call_named checked called pick_answer pick_picture digit digits number numbers capital spelled spelled_words answer_text answers_text first_picture line_text line_picture lines texts session alone trapped frame framed
 whole_case = refl
 
 pub no_input : NoInput
@@ -41,13 +41,13 @@ unfolding capital spelled spelled_words answer_text answers_text line_text lines
 empty_line = refl
 
 pub report_of_job_zero : ReportOfJobZero
-unfolding computed fresh clear header with_members members used job_at live mask with_bit climbs in_tree tree nearer next_below next_member depth_within depth line size next lines_from tree_lines report_checks report_key report_lines reported digit digits number numbers capital spelled spelled_words answer_text answers_text first_picture line_text line_picture lines texts session report-read frame framed
+unfolding computed fresh clear header with_members members used entry_at live mask with_bit climbs in_tree tree nearer next_below next_member depth_within depth line size next lines_from tree_lines report_checks report_key report_lines reported digit digits number numbers capital spelled spelled_words answer_text answers_text first_picture line_text line_picture lines texts session report-read frame framed
 report_of_job_zero = refl
 
 pub report_of_nobody : ReportOfNobody
-unfolding computed fresh clear header with_members members used job_at live tree size report_checks report_key report_lines reported digit digits number numbers capital spelled spelled_words answer_text answers_text first_picture line_text line_picture lines texts session report-read frame framed
+unfolding computed fresh clear header with_members members used entry_at live tree size report_checks report_key report_lines reported digit digits number numbers capital spelled spelled_words answer_text answers_text first_picture line_text line_picture lines texts session report-read frame framed
 report_of_nobody = refl
 
 pub line_at_end : LineAtEnd
-unfolding computed fresh clear header fits chosen split placed answer outcome meant length_good room_registers taken take with_members job_at set_each preferred chosen_below chosen_job accumulated_after turn_given picked picked_number picked_key trap_one call_named checked called pick_answer pick_picture digit digits number numbers capital spelled spelled_words answer_text answers_text first_picture line_text line_picture lines texts session alone trapped frame framed
+unfolding computed fresh clear header fits chosen split placed answer outcome meant length_good room_registers taken take with_members entry_at set_each preferred chosen_below chosen_job accumulated_after turn_given picked picked_number picked_key trap_one call_named checked called pick_answer pick_picture digit digits number numbers capital spelled spelled_words answer_text answers_text first_picture line_text line_picture lines texts session alone trapped frame framed
 line_at_end = refl
