@@ -2,5 +2,4 @@
 pub mod Depth
 pub mod Line
 pub mod Order
-pub mod Size
 pub mod Report

@@ -1,6 +1,6 @@
 -- Lines, one at a time.
 use Prim.Native.Nat.{ℕ, zero, suc, ◌-◌, ◌<◌}
-use mathlib.Core.Path.{◌≡◌, refl, ap, ◌∙◌}
+use mathlib.Core.Path.{◌≡◌, refl, ap}
 use native.Mathlib.Omega.{arith}
 use mathlib.Core.List.{List, [], ◌∷◌}
 use lib.ListN.{length}
@@ -8,19 +8,14 @@ use Rattle.report_lines.specs.Line.{line}
 use Rattle.report_lines.specs.Order.{next, lines_from}
 
 module _ (p : List ℕ) (m t : ℕ) where
-  pub lines_more : (i n : ℕ) → lines_from (suc i) p m t n ≡ line p t n ∷ lines_from i p m t (next p m n)
-  unfolding lines_from
-  lines_more i n = refl
-
-  pub no_lines : (n : ℕ) → lines_from 0 p m t n ≡ []
-  unfolding lines_from
-  no_lines n = refl
-
+  -- the first of the lines, and those behind it
   pub lines_some : (i n : ℕ) → 0 < i → lines_from i p m t n ≡ line p t n ∷ lines_from (i - 1) p m t (next p m n)
-  lines_some i n l = let e : i ≡ suc (i - 1) = omega arith in ap (λ (j : ℕ). lines_from j p m t n) e ∙ lines_more (i - 1) n
+  unfolding lines_from
+  lines_some i n l = let e : i ≡ suc (i - 1) = omega arith in ap (λ (j : ℕ). lines_from j p m t n) e
 
   pub lines_none : (i n : ℕ) → i ≡ 0 → lines_from i p m t n ≡ []
-  lines_none i n e = rw e (no_lines n)
+  unfolding lines_from
+  lines_none i n e = rw e
 
   -- as many lines as were asked for
   pub length_lines : (i n : ℕ) → length (lines_from i p m t n) ≡ i

@@ -79,14 +79,13 @@ fn depth_of(p: &[u32], t: usize, k: usize) -> u32
 }
 
 // How many members a set has.
+#[tactic(auto, unfolding(crate::specs::Order::size))]
 fn size_of(members: u64) -> usize
     ensures { result ≡ size members }
 {
     let mut n = 0;
     for k in 0..JOBS {
-        if masks::is_member(members, k) {
-            n += 1;
-        }
+        n += usize::from(masks::is_member(members, k));
     }
     n
 }
@@ -116,6 +115,7 @@ pub fn begin(p: &[u32], top: u32, lent: usize) -> Result<Lines<'_>, Refusal>
 }
 
 // The line of the job of this number in the tree of the job at position t, and the next member's number.
+#[tactic(auto, using(crate::proofs::Line::line_is), unfolding(crate::specs::Order::next))]
 pub fn line_of(p: &[u32], members: u64, t: usize, number: u32) -> Step
     ensures { (result.line ≡ line p.now t number) × (result.next ≡ next p.now members number) }
 {
