@@ -35,6 +35,7 @@ fn are_eight(text: &[u8], i: usize) -> bool
 }
 
 // How many characters from a place on are digits, eight at a time: those behind them decide whether all are.
+// With `all`, which tests one at a time, a session of bad lines takes a tenth more instructions.
 fn digits_by_eight(text: &[u8], place: usize, count: usize) -> usize
     requires { place + count ≤ length text.now }
     ensures bound { result ≤ count }

@@ -28,13 +28,16 @@ asks s = error (read s 0 2)
 abbrev pub key : List ℕ → Option ℕ
 key s = pick (eqb (length s) 10) (pick (asks s) (read s 2 8) None) None
 
+-- how many numbers of w digits each a field holds, at least one and at most n
+abbrev pub count : ℕ → ℕ → List ℕ → Option ℕ
+count w n s =
+    pick (eqb (length s / w) 0) None
+    (pick (ltb n (length s / w)) None
+    (pick (eqb (length s % w) 0) (pick (digits s 0 (length s)) (Some (length s / w)) None) None))
+
 -- a text field: bytes of two digits each, at most n of them, or `-` for none
 unfoldable pub text : ℕ → List ℕ → Option (List ℕ)
-text n s =
-    pick (none s) (Some [])
-    (pick (eqb (length s / 2) 0) None
-    (pick (ltb n (length s / 2)) None
-    (pick (eqb (length s % 2) 0) (pick (digits s 0 (length s)) (Some (numbers s 0 2 (length s / 2))) None) None)))
+text n s = pick (none s) (Some []) (option_map (λ (k : ℕ). numbers s 0 2 k) (count 2 n s))
 
 -- a text is read: how many bytes it has is r, and they are put into the room a, which is then b
 pub record Told (t : Option (List ℕ)) (r : Option ℕ) (a b : List ℕ) : Type 0 where

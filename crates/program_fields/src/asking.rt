@@ -1,7 +1,8 @@
-ghost use Rattle.std.specs.Prelude.{◌≡◌, ◌≤◌, None, Some, MatchOption, IfSome, length};
+ghost use Rattle.std.specs.Prelude.{◌≡◌, ◌≤◌, ◌<◌, ◌*◌, true, None, Some, MatchOption, IfSome, length};
 ghost use Rattle.std.specs.List.{before_first, after_first};
+ghost use Rattle.program_digits.specs.Digits.{digits};
 ghost use Rattle.program_fields.specs.Within.{TextsFitting};
-ghost use Rattle.program_fields.specs.Fields.{is_blank, blank, none, asks, key, text as text_of, Told};
+ghost use Rattle.program_fields.specs.Fields.{is_blank, blank, none, asks, key, count, text as text_of, Told};
 
 use crate::{Asked, LONGEST_LINE};
 
@@ -49,6 +50,23 @@ fn key_of(field: &[u8]) -> Option<u32>
     }
 }
 
+// How many numbers of so many digits each a field holds, at least one and at most `most`.
+pub fn count_in(field: &[u8], width: usize, most: usize) -> Option<usize>
+    requires { 0 < width }
+    ensures value { result ≡ count width most field.now }
+    ensures within { IfSome result (λ n. n ≤ most) }
+    ensures good { IfSome result (λ n. digits field.now 0 (width * n) ≡ true) }
+{
+    let count = field.len() / width;
+    if count == 0 || most < count || field.len() % width != 0 {
+        return None;
+    }
+    if !program_digits::are_digits(field, 0, field.len()) {
+        return None;
+    }
+    Some(count)
+}
+
 // Reads a text field, and answers how many bytes there are.
 fn read_text(field: &[u8], text: &mut [u8]) -> Option<usize>
     ensures within { IfSome result (λ n. n ≤ length text.old) }
@@ -57,13 +75,7 @@ fn read_text(field: &[u8], text: &mut [u8]) -> Option<usize>
     if is_none(field) {
         return Some(0);
     }
-    let count = field.len() / 2;
-    if count == 0 || text.len() < count || field.len() % 2 != 0 {
-        return None;
-    }
-    if !program_digits::are_digits(field, 0, field.len()) {
-        return None;
-    }
+    let count = count_in(field, 2, text.len())?;
     program_digits::read_bytes(field, 0, count, text);
     Some(count)
 }

@@ -65,13 +65,7 @@ fn read_registers(field: &[u8], registers: &mut [u32]) -> Option<usize>
     if asking::is_none(field) {
         return Some(0);
     }
-    let count = field.len() / 8;
-    if count == 0 || registers.len() < count || field.len() % 8 != 0 {
-        return None;
-    }
-    if !program_digits::are_digits(field, 0, field.len()) {
-        return None;
-    }
+    let count = asking::count_in(field, 8, registers.len())?;
     program_digits::read_words(field, 0, count, registers);
     Some(count)
 }
