@@ -23,17 +23,14 @@ fn blank() -> JobLine {
     }
 }
 
-// Puts the first `count` lines behind what is used of the output's room, and answers how much is used then.
-fn write_lines(lines: [JobLine; 64], count: usize, out: &mut [u8], used: usize) -> usize
-    requires { (count ≤ 64) × (used + line_width * count ≤ length out.old) }
-    ensures { (result ≡ used + line_width * count) × (take result out.new ≡ take used out.old ++ answers_text (map line_longwords (take count lines))) }
+// Puts lines behind what is used of the output's room, and answers how much is used then.
+fn write_lines(lines: &[JobLine], out: &mut [u8], used: usize) -> usize
+    requires { used + line_width * length lines.now ≤ length out.old }
+    ensures { (result ≡ used + line_width * length lines.now) × (take result out.new ≡ take used out.old ++ answers_text (map line_longwords lines.now)) }
 {
     let mut place = used;
-    let mut i = 0;
-    while i < count {
-        let longwords = longwords_of(lines[i]);
-        place = write_answer(out, place, &longwords);
-        i += 1;
+    for line in lines {
+        place = write_answer(out, place, &longwords_of(*line));
     }
     place
 }
@@ -43,8 +40,7 @@ fn write_key(key: i32, out: &mut [u8], used: usize) -> usize
     requires { used + line_width ≤ length out.old }
     ensures { (result ≡ used + 9) × (take result out.new ≡ take used out.old ++ answers_text ((bits key ∷ []) ∷ [])) }
 {
-    let longwords = [words::bits_of(key)];
-    write_answer(out, used, &longwords)
+    write_answer(out, used, &[words::bits_of(key)])
 }
 
 // Reports the tree of the job `top` behind what is used of the output's room, and answers how much is used then.
@@ -58,6 +54,5 @@ pub fn write_report(p: &[u32], top: u32, out: &mut [u8], used: usize) -> usize
     if report.key != picture::DONE {
         return write_key(report.key, out, used);
     }
-    let lines = lent.lines;
-    write_lines(lines, report.count, out, used)
+    write_lines(&lent.lines[..report.count], out, used)
 }

@@ -104,6 +104,7 @@ fn take_all(
 {
     let mut filled = kept;
     let mut start = 0;
+    // How much of the chunk a turn takes only `take_lines` finds, so no iterator gives its pieces.
     while start < chunk.len() {
         let progress = take_lines(p, &chunk[start..], filled, line, out);
         write_piece(rt, &out[..progress.used], written)?;

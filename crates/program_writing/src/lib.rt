@@ -45,11 +45,9 @@ fn write_digits(text: &mut [u8], place: usize, count: usize, number: u32)
     ensures { text.new ≡ written text.old place count number }
 {
     let mut rest = number;
-    let mut k = count;
-    while 0 < k {
-        k -= 1;
+    for k in (0..count).rev() {
         text[place + k] = capital_of(rest % 16);
-        rest = rest / 16;
+        rest /= 16;
     }
 }
 
@@ -71,11 +69,9 @@ fn write_each(text: &mut [u8], place: usize, words: &[u32])
     ensures { text.new ≡ written_words text.old place words.now }
 {
     let mut i = place;
-    let mut k = 0;
-    while k < words.len() {
-        write_digits(text, i, 8, words[k]);
+    for word in words {
+        write_digits(text, i, 8, *word);
         i += 8;
-        k += 1;
     }
 }
 

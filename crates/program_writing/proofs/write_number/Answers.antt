@@ -11,10 +11,12 @@ unfolding past with_number
 returns-then-not-is_room c = rw (sym c.is_room.ensures ∙ c.if-not-is_room.true) (record { value = refl; text_after = refl })
 
 pub write_digits-requires : goal.write_digits-requires
-write_digits-requires c = (let z : c.args.place + c.args.count ≤ length c.args.text.now = leb-true _ _ (sym c.is_room.ensures ∙ c.if-not-is_room.false) in z)
+write_digits-requires c = leb-true _ _ (sym c.is_room.ensures ∙ c.if-not-is_room.false)
 
 pub overflow_add-result : goal.overflow_add-result
-overflow_add-result c = omega (arith, (let z : c.args.place + c.args.count ≤ length c.args.text.now = leb-true _ _ (sym c.is_room.ensures ∙ c.if-not-is_room.false) in z))
+overflow_add-result c =
+    let l : c.args.place + c.args.count ≤ length c.args.text.now = leb-true _ _ (sym c.is_room.ensures ∙ c.if-not-is_room.false) in
+    omega arith
 
 pub returns : goal.returns
 unfolding past with_number

@@ -17,10 +17,12 @@ unfolding past with_words
 returns-then-not-is_room c = rw (sym c.is_room.ensures ∙ c.if-not-is_room.true) (record { value = refl; text_after = refl })
 
 pub write_each-requires : goal.write_each-requires
-write_each-requires c = (let z : c.args.place + 8 * length c.args.words.now ≤ length c.args.text.now = leb-true _ _ (sym c.is_room.ensures ∙ c.if-not-is_room.false) in z)
+write_each-requires c = leb-true _ _ (sym c.is_room.ensures ∙ c.if-not-is_room.false)
 
 pub overflow_add-result : goal.overflow_add-result
-overflow_add-result c = omega (arith, (let z : c.args.place + 8 * length c.args.words.now ≤ length c.args.text.now = leb-true _ _ (sym c.is_room.ensures ∙ c.if-not-is_room.false) in z))
+overflow_add-result c =
+    let l : c.args.place + 8 * length c.args.words.now ≤ length c.args.text.now = leb-true _ _ (sym c.is_room.ensures ∙ c.if-not-is_room.false) in
+    omega arith
 
 pub returns : goal.returns
 unfolding past with_words
