@@ -77,7 +77,7 @@ pub fn error_text<'a>(key: i32, system: &'a [u8], driver: &'a [u8]) -> &'a [u8]
     }
 }
 
-// The key of the answer: 0, or -7 where there is no such text.
+// The key of the answer: 0, or -7 where there is no such text. A number, as every key that a host is given (docs/DECISIONS.md 27).
 #[tactic(auto, unfolding(crate::specs::Text::error_key))]
 pub fn error_key(key: i32, system: &[u8], driver: &[u8]) -> i32
     ensures { result ≡ error_key key system.now driver.now }

@@ -82,7 +82,7 @@ pub fn longer_of(p: &[u32], best: u32, i: usize) -> u32
     best
 }
 
-// The length of the longest free block, 0 for none.
+// The length of the longest free block, 0 for none: no block is that short, and `longest`, from which $6 answers, has it so.
 pub fn longest_free(p: &[u32], base: usize, e: usize) -> u32
     ensures { result ≡ longest p.now base e }
 {

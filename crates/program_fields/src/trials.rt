@@ -43,7 +43,8 @@ fn call_of(field: &[u8]) -> Option<Wanted> {
     }
 }
 
-// Reads the bytes behind a call field's first two digits, and answers how many there are: none where they are no digits or too many.
+// Reads the bytes behind a call field's first two digits, and answers how many there are: none where they are no digits or too many: a trial
+// without a name is one with a name of no bytes.
 pub fn read_name(field: &[u8], name: &mut [u8]) -> usize
     ensures { result ≤ length name.old }
 {

@@ -49,7 +49,8 @@ fn feed_in(text: &[u8]) -> Option<usize>
     text.iter().position(|character| *character == b'\n')
 }
 
-// The place of the first line feed from a place on, or the text's length where there is none.
+// The place of the first line feed from a place on, or the text's length where there is none: `line_end`, by which the pieces of a session are told, has
+// it so, and a part of a line reaches as far either way.
 pub fn line_end(text: &[u8], from: usize) -> usize
     ensures value { result ≡ line_end text.now from }
     ensures lower_bound { (from ≤ result) × (from ≤ length text.now → result ≤ length text.now) }
