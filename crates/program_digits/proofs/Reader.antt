@@ -1,9 +1,9 @@
 -- Laws of digits and numbers as they are read. Assumes nothing.
 use mathlib.Core.Path.{◌≡◌, refl, sym, ap, ◌∙◌}
 use mathlib.Core.Bool.{Bool, true, false, false≢true, ◌&&◌}
-use mathlib.Core.List.{List, [], ◌∷◌}
+use mathlib.Core.List.{List, [], ◌∷◌, map}
 use Prim.Native.Nat.{ℕ, zero, suc, ◌+◌, ◌-◌, ◌*◌, ◌/◌, ◌%◌, ◌^◌, ◌<◌, ◌≤◌, min}
-use native.Mathlib.Nat.{pow-suc, pow-le-pow_right}
+use native.Mathlib.Nat.{pow-suc, pow-le-pow_right, mul-le-mul_left}
 use native.Mathlib.Numerals.{add-one}
 use native.Mathlib.Omega.{arith}
 use borrow.Author.Tests.{ltb-true, ltb-false, leb-true, leb-false}
@@ -202,21 +202,32 @@ unfolding numbers
 length_numbers s i w zero = refl
 length_numbers s i w (suc n) = ap suc (length_numbers s (i + w) w n)
 
--- numbers past the end are not stored
-pub stores_past : (q : List ℕ) (k : ℕ) (vs : List ℕ) → length q ≤ k → sets q k vs ≡ q
+-- what is stored past the end is not stored
+pub stores_past : {A : Type 0} (q : List A) (k : ℕ) (vs : List A) → length q ≤ k → sets q k vs ≡ q
 stores_past q k [] l = refl
 stores_past q k (v ∷ vs) l = rw (set_out q k v l) (stores_past q (suc k) vs (omega arith))
 
--- the numbers that are still to be stored: one more of them, and none where all are or the room is full
-module _ (s : List ℕ) (i k w n : ℕ) (q : List ℕ) where
-  pub numbers_more : k < n → sets q k (numbers s (i + w * k) w (n - k)) ≡ sets (set q k (number s (i + w * k) w)) (k + 1) (numbers s (i + w * (k + 1)) w (n - (k + 1)))
+-- of n numbers of w digits each the one at k lies in the text, and is of digits
+module _ (s : List ℕ) (i w n k : ℕ) (p : 0 < w) (l : k < n) (h : digits s i (w * n) ≡ true) where
+  one_of : w * k + w ≤ w * n
+  one_of = let m : w * (k + 1) ≤ w * n = mul-le-mul_left w (omega arith) in omega (arith, m)
+
+  pub number_inside : i + (w * k + w) ≤ length s
+  number_inside = let f : i + (w * k + (w - 1)) < length s = digits_inside s i (w * n) (w * k + (w - 1)) h (omega (arith, one_of)) in omega (arith, f)
+
+  pub number_digits : digits s (i + w * k) w ≡ true
+  number_digits = digits_part s i (w * n) (w * k) w h one_of
+
+-- the numbers that are still to be stored, by their values: one more of them, and none where all are or the room is full
+module _ {A : Type 0} (v : ℕ → A) (s : List ℕ) (i k w n : ℕ) (q : List A) where
+  pub numbers_more : k < n → sets q k (map v (numbers s (i + w * k) w (n - k))) ≡ sets (set q k (v (number s (i + w * k) w))) (k + 1) (map v (numbers s (i + w * (k + 1)) w (n - (k + 1))))
   unfolding numbers
   numbers_more l = let z : i + w * (k + 1) ≡ i + w * k + w = omega arith in rw (left_more s i k n l, z, add-one)
 
-  pub numbers_stored : min n (length q) ≤ k → sets q k (numbers s (i + w * k) w (n - k)) ≡ q
+  pub numbers_stored : min n (length q) ≤ k → sets q k (map v (numbers s (i + w * k) w (n - k))) ≡ q
   unfolding numbers
   numbers_stored l = go (leb n k) refl
     where
-      go : (b : Bool) → leb n k ≡ b → sets q k (numbers s (i + w * k) w (n - k)) ≡ q
+      go : (b : Bool) → leb n k ≡ b → sets q k (map v (numbers s (i + w * k) w (n - k))) ≡ q
       go true e = let m : n ≤ k = leb-true n k e in let z : n - k ≡ 0 = omega arith in rw z
-      go false e = let m : k < n = leb-false n k e in stores_past q k (numbers s (i + w * k) w (n - k)) (omega arith)
+      go false e = let m : k < n = leb-false n k e in stores_past q k (map v (numbers s (i + w * k) w (n - k))) (omega arith)

@@ -1,8 +1,9 @@
 // Hexadecimal as it is read from a lent text: digits, numbers, words and bytes.
 #![tactic(auto)]
 
-ghost use Rattle.std.specs.Prelude.{◌≡◌, true, ◌+◌, ◌-◌, ◌*◌, ◌^◌, ◌≤◌, ◌<◌, length, is_some, unwrap_or};
+ghost use Rattle.std.specs.Prelude.{◌≡◌, true, ◌+◌, ◌-◌, ◌*◌, ◌^◌, ◌≤◌, ◌<◌, length, map, ℕ, is_some, unwrap_or};
 ghost use Rattle.std.specs.List.{list_all};
+ghost use Rattle.std.proofs.Common.{rules};
 ghost use Rattle.std.proofs.lemmas.List.Edits.{sets};
 ghost use Rattle.program_digits.specs.Digits.{digit, digits, number, numbers, read};
 
@@ -100,22 +101,56 @@ pub fn read_number(text: &[u8], place: usize, count: usize) -> Option<u32>
     }
 }
 
-// The words, with the first `count` of them those that stand in the text from a place on, in digits.
-pub fn read_words(text: &[u8], place: usize, count: usize, words: &mut [u32])
-    requires { digits text.now place (8 * count) ≡ true }
-    ensures { words.new ≡ sets words.old 0 (numbers text.now place 8 count) }
-{
-    for k in 0..count.min(words.len()) {
-        words[k] = number_at(text, place + 8 * k, 8);
+// A number that a text holds in digits: a longword in eight, a byte in two.
+pub trait Spelled: Copy {
+    // How many digits it has, and the value of the number that they say.
+    ghost WIDTH: { ℕ };
+
+    ghost value: { ℕ → Self };
+
+    const WIDTH: usize;
+
+    fn of(number: u32) -> Self
+        requires { number < 16 ^ WIDTH }
+        ensures { result ≡ value number };
+
+    ghost few: { (0 < WIDTH) × (WIDTH ≤ 8) };
+}
+
+impl Spelled for u32 {
+    ghost WIDTH = { 8 };
+
+    ghost value = { λ n. n };
+
+    const WIDTH: usize = 8;
+
+    ghost few = { Prim.search rules };
+
+    fn of(number: u32) -> u32 {
+        number
     }
 }
 
-// The bytes, with the first `count` of them those that stand in the text from a place on, in digits.
-pub fn read_bytes(text: &[u8], place: usize, count: usize, bytes: &mut [u8])
-    requires { digits text.now place (2 * count) ≡ true }
-    ensures { bytes.new ≡ sets bytes.old 0 (numbers text.now place 2 count) }
+impl Spelled for u8 {
+    ghost WIDTH = { 2 };
+
+    ghost value = { λ n. n };
+
+    const WIDTH: usize = 2;
+
+    ghost few = { Prim.search rules };
+
+    fn of(number: u32) -> u8 {
+        number as u8
+    }
+}
+
+// The numbers, with the first `count` of them those that stand in the text from a place on, in digits.
+pub fn read_numbers<N: Spelled>(text: &[u8], place: usize, count: usize, room: &mut [N])
+    requires { digits text.now place (N.WIDTH * count) ≡ true }
+    ensures { room.new ≡ sets room.old 0 (map N.value (numbers text.now place N.WIDTH count)) }
 {
-    for k in 0..count.min(bytes.len()) {
-        bytes[k] = number_at(text, place + 2 * k, 2) as u8;
+    for k in 0..count.min(room.len()) {
+        room[k] = N::of(number_at(text, place + N::WIDTH * k, N::WIDTH));
     }
 }

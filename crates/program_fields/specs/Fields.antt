@@ -1,5 +1,5 @@
--- The fields of a line that asks for an error text, as they are read (rules 121 and 126).
-use Rattle.std.specs.Prelude.{◌≡◌, Bool, false, List, [], Option, Some, None, option_map, unwrap_or, ℕ, ◌/◌, ◌%◌, ltb, eqb, length, get_or}
+-- Fields as they are read (rules 121, 123 and 126).
+use Rattle.std.specs.Prelude.{◌≡◌, Bool, false, List, [], Option, Some, None, option_map, unwrap_or, map, ℕ, ◌/◌, ◌%◌, ltb, eqb, length, get_or}
 use Rattle.std.specs.List.{position}
 use Rattle.std.proofs.lemmas.List.Edits.{sets}
 use Rattle.program_digits.specs.Digits.{pick, digits, numbers, read}
@@ -35,11 +35,11 @@ count w n s =
     (pick (ltb n (length s / w)) None
     (pick (eqb (length s % w) 0) (pick (digits s 0 (length s)) (Some (length s / w)) None) None))
 
--- a text field: bytes of two digits each, at most n of them, or `-` for none
-unfoldable pub text : ℕ → List ℕ → Option (List ℕ)
-text n s = pick (none s) (Some []) (option_map (λ (k : ℕ). numbers s 0 2 k) (count 2 n s))
+-- a field of numbers of w digits each, at most n of them, or `-` for none: bytes have two digits, longwords eight
+unfoldable pub spelled_in : ℕ → ℕ → List ℕ → Option (List ℕ)
+spelled_in w n s = pick (none s) (Some []) (option_map (λ (k : ℕ). numbers s 0 w k) (count w n s))
 
--- a text is read: how many bytes it has is r, and they are put into the room a, which is then b
-pub record Told (t : Option (List ℕ)) (r : Option ℕ) (a b : List ℕ) : Type 0 where
-  pub count : r ≡ option_map (λ (bytes : List ℕ). length bytes) t
-  pub bytes : b ≡ sets a 0 (unwrap_or t [])
+-- a field is read: how many numbers it has is r, and their values are put into the room a, which is then b
+pub record Told {A : Type 0} (value : ℕ → A) (field : Option (List ℕ)) (r : Option ℕ) (a b : List A) : Type 0 where
+  pub counted : r ≡ option_map (λ (ns : List ℕ). length ns) field
+  pub stored : b ≡ sets a 0 (map value (unwrap_or field []))

@@ -2,9 +2,10 @@ ghost use Rattle.std.specs.Prelude.{◌≡◌, ◌≤◌, ◌<◌, ◌*◌, true
 ghost use Rattle.std.specs.List.{before_first, after_first};
 ghost use Rattle.program_digits.specs.Digits.{digits};
 ghost use Rattle.program_fields.specs.Within.{TextsFitting};
-ghost use Rattle.program_fields.specs.Fields.{is_blank, blank, none, asks, key, count, text as text_of, Told};
+ghost use Rattle.program_fields.specs.Fields.{is_blank, blank, none, asks, key, count, spelled_in, Told};
 
 use crate::{Asked, LONGEST_LINE};
+use program_digits::Spelled;
 
 // The first two digits of a line that asks for an error text.
 const ERROR: u32 = 0xFE;
@@ -51,7 +52,7 @@ fn key_of(field: &[u8]) -> Option<u32>
 }
 
 // How many numbers of so many digits each a field holds, at least one and at most `most`.
-pub fn count_in(field: &[u8], width: usize, most: usize) -> Option<usize>
+fn count_in(field: &[u8], width: usize, most: usize) -> Option<usize>
     requires { 0 < width }
     ensures value { result ≡ count width most field.now }
     ensures within { IfSome result (λ n. n ≤ most) }
@@ -67,16 +68,16 @@ pub fn count_in(field: &[u8], width: usize, most: usize) -> Option<usize>
     Some(count)
 }
 
-// Reads a text field, and answers how many bytes there are.
-fn read_text(field: &[u8], text: &mut [u8]) -> Option<usize>
-    ensures within { IfSome result (λ n. n ≤ length text.old) }
-    ensures told { Told (text_of (length text.old) field.now) result text.old text.new }
+// Reads a field of numbers, and answers how many there are.
+pub fn read_field<N: Spelled>(field: &[u8], room: &mut [N]) -> Option<usize>
+    ensures within { IfSome result (λ n. n ≤ length room.old) }
+    ensures told { Told N.value (spelled_in N.WIDTH (length room.old) field.now) result room.old room.new }
 {
     if is_none(field) {
         return Some(0);
     }
-    let count = count_in(field, 2, text.len())?;
-    program_digits::read_bytes(field, 0, count, text);
+    let count = count_in(field, N::WIDTH, room.len())?;
+    program_digits::read_numbers(field, 0, count, room);
     Some(count)
 }
 
@@ -90,8 +91,8 @@ pub fn read_asked(line: &[u8], system: &mut [u8], driver: &mut [u8]) -> Option<A
     let (field, texts) = cut(line)?;
     let key = key_of(field)?;
     let (first, last) = cut(texts)?;
-    let system = read_text(first, system)?;
-    let driver = read_text(last, driver)?;
+    let system = read_field(first, system)?;
+    let driver = read_field(last, driver)?;
     Some(Asked {
         key,
         system,

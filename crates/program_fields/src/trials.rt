@@ -43,8 +43,8 @@ fn call_of(field: &[u8]) -> Option<Wanted> {
     }
 }
 
-// Reads the bytes behind a call field's first two digits, and answers how many there are: none where they are no digits or too many: a trial
-// without a name is one with a name of no bytes.
+// Reads the bytes behind a call field's first two digits, and answers how many there are, none where they are no digits or too many: a trial without a
+// name is one with a name of no bytes.
 pub fn read_name(field: &[u8], name: &mut [u8]) -> usize
     ensures { result ≤ length name.old }
 {
@@ -55,20 +55,8 @@ pub fn read_name(field: &[u8], name: &mut [u8]) -> usize
     if name.len() < count || !program_digits::are_digits(field, 2, 2 * count) {
         return 0;
     }
-    program_digits::read_bytes(field, 2, count, name);
+    program_digits::read_numbers(field, 2, count, name);
     count
-}
-
-// Reads a register field, and answers how many registers there are.
-fn read_registers(field: &[u8], registers: &mut [u32]) -> Option<usize>
-    ensures { IfSome result (λ n. n ≤ length registers.old) }
-{
-    if asking::is_none(field) {
-        return Some(0);
-    }
-    let count = asking::count_in(field, 8, registers.len())?;
-    program_digits::read_words(field, 0, count, registers);
-    Some(count)
 }
 
 // How often the longword whose digits end at a place stands in a row: once, or as often as an `x` and four digits say.
@@ -169,7 +157,7 @@ pub fn read_trial(p: &mut [u32], line: &[u8], registers: &mut [u32]) -> Option<T
     let (field, rest) = asking::cut(line)?;
     let wanted = call_of(field)?;
     let (numbers, picture) = asking::cut(rest)?;
-    let count = read_registers(numbers, registers)?;
+    let count = asking::read_field(numbers, registers)?;
     let size = read_picture(p, picture)?;
     trial_of(wanted, field.len(), &registers[..count], size)
 }

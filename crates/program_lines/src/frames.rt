@@ -3,7 +3,7 @@ ghost use Rattle.program_digits.specs.Digits.{digits, number};
 ghost use Rattle.program_lines.specs.Frames.{frame, called, trapped, reported, kind_of, Told};
 
 use crate::Line;
-use program_digits::{are_digits, number_at, read_bytes, read_words};
+use program_digits::{are_digits, number_at, read_numbers};
 
 // The most characters that a line may have.
 const LONGEST: usize = 512;
@@ -24,14 +24,14 @@ fn read_trap(trap: u32, line: &[u8], registers: &mut [u32], name: &mut [u8]) -> 
     }
     if trap == 2 {
         let count = (line.len() - TRAP) / 2;
-        read_words(line, 2, 8, registers);
-        read_bytes(line, TRAP, count, name);
+        read_numbers(line, 2, 8, registers);
+        read_numbers(line, TRAP, count, name);
         return Some(Line::Trap { trap, count });
     }
     if line.len() != TRAP {
         return None;
     }
-    read_words(line, 2, 8, registers);
+    read_numbers(line, 2, 8, registers);
     Some(Line::Trap { trap, count: 0 })
 }
 
