@@ -78,7 +78,7 @@ fn width_at(field: &[u8], place: usize) -> usize
     }
 }
 
-// Reads the longwords of a picture field, and answers how many there are.
+// Reads the longwords of a picture field, and answers how many there are. A longword takes 8 characters or 13, as it says itself, so no `for` goes over them.
 fn read_longwords(p: &mut [u32], field: &[u8]) -> Option<usize>
     ensures { IfSome result (λ n. n ≤ length p.old) }
 {

@@ -47,6 +47,7 @@ fn answer_part(
 }
 
 // Answers the lines that end in a chunk, up to its end, where what stands behind the last line feed is kept, or until little room is left for answers.
+// How far a line goes only `line_end` finds, and the walk may stop between two lines, so it is a `loop`.
 fn take_lines(p: &mut [u32], chunk: &[u8], kept: usize, line: &mut [u8], out: &mut [u8]) -> Progress
     requires kept_in_bounds { kept ≤ length line.old }
     requires roomy { Roomy line.old out.old }
