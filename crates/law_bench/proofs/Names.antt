@@ -1,7 +1,6 @@
 -- Names of every kind, worked out.
 use mathlib.Core.Path.{◌≡◌, refl}
-use mathlib.Core.List.{List, [], ◌∷◌}
-use Prim.Native.Nat.{ℕ}
+use mathlib.Core.List.{[], ◌∷◌}
 use Rattle.names.specs.Names.{letter, pipe, digit, number, numbered, named}
 use Rattle.std.proofs.Common.{Ok, Err}
 use Rattle.names.specs.declared.NameFault.TheVariants.{Foreign, Unnumbered, Bare}

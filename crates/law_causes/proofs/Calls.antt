@@ -11,7 +11,7 @@ use Rattle.words.specs.Words.{low_word}
 use Rattle.words.proofs.Tests.{false_true, both}
 use Rattle.words.proofs.Each.{all_at, all_by}
 use Rattle.picture.specs.Keys.{not_complete, invalid_job, channel_not_open, not_found, bad_name, bad_parameter}
-use Rattle.picture.specs.Records.{number, used}
+use Rattle.picture.specs.Records.{number}
 use Rattle.picture.specs.Numbers.{position, live, job_at, channel_at}
 use Rattle.picture.specs.declared.Table.TheVariants.{Jobs, Channels}
 use Rattle.picture.specs.declared.Area.TheVariants.{Heap, Transient}

@@ -29,10 +29,10 @@ use Rattle.picture.proofs.Numbers.{live_is, is_live}
 use Rattle.picture.proofs.Records.{used_is}
 use Rattle.masks.specs.Masks.{lowest_clear}
 use Rattle.masks.proofs.Lowest.{lowest_clear_is}
-use Rattle.blocks.specs.Header.{kind, free, plain_kind, queue_length, queue_count}
+use Rattle.blocks.specs.Header.{kind, plain_kind, queue_length, queue_count}
 use Rattle.blocks.specs.Walk.{blocks}
 use Rattle.sound.specs.Sound.{sound}
-use Rattle.sound_facts.proofs.Sound.{Sound, Entries, entries_of}
+use Rattle.sound_facts.proofs.Sound.{Sound, entries_of}
 use Rattle.sound_facts.proofs.View.{view}
 use Rattle.calls.specs.Call.{Check}
 use Rattle.calls.specs.Found.{job_check, channel_check}
