@@ -1,9 +1,14 @@
 -- The lines of a table, stored one after the other.
-use Prim.Native.Nat.{ℕ, suc, ◌+◌, ◌*◌}
+use Prim.Native.Nat.{ℕ, suc, ◌+◌, ◌*◌, ◌≤◌}
 use mathlib.Core.Path.{◌≡◌, refl, ap}
 use mathlib.Core.List.{List, [], ◌∷◌}
 use native.Mathlib.Omega.{arith}
+use lib.ListN.{length}
 use lib.Seq.{sets}
+use borrow.Rule.Slice.PartMut.{put_mid}
+use Rattle.std.proofs.lemmas.List.Edits.{sets-eq}
+use Rattle.std.proofs.Common.{append_assoc}
+use Rattle.std.proofs.lemmas.List.{drop-drop}
 use Rattle.report_lines.specs.declared.JobLine.{JobLine}
 use Rattle.report_table.specs.Longwords.{line_longwords}
 use Rattle.krowjyvan.specs.Lines.{lines_longwords}
@@ -19,3 +24,7 @@ line_stored table i l ls =
 pub none_stored : (table : List ℕ) (i : ℕ) → sets table i (lines_longwords []) ≡ table
 unfolding lines_longwords
 none_stored table i = refl
+
+-- longwords written at i are stored from i on
+pub written_at : (xs vs ys : List ℕ) (i k : ℕ) → i + length vs ≤ length xs → k ≡ length vs → ys ≡ vs → put_mid i k xs ys ≡ sets xs i vs
+written_at xs vs ys i k l e f = rw (f, e, sets-eq vs xs i l) (simp (append_assoc, drop-drop))
