@@ -8,6 +8,7 @@ ghost use Rattle.sound.specs.Sound.{sound};
 ghost use Rattle.sound.specs.Test.{half_fine};
 
 use picture::{Area, Table};
+use picture_tables::Tables;
 
 // The area where a table's blocks lie.
 pub fn area_of(t: Table) -> Area
@@ -25,14 +26,15 @@ pub fn is_half_fine(p: &[u32], t: Table) -> bool
     requires { whole_fine p.now ≡ true }
     ensures { result ≡ half_fine p.now t }
 {
+    let tables = Tables::new(p);
     let mut noted = [0u8; 64];
-    let Some(n) = sound_entries::walk_entries(p, t, &mut noted) else {
+    let Some(n) = sound_entries::walk_entries(&tables, t, &mut noted) else {
         return false;
     };
     let a = area_of(t);
     let b = picture::area_from(p, a);
     let e = picture::area_upto(p, a);
-    let Some(m) = sound_walks::walk_blocks(p, t, b, e, &noted) else {
+    let Some(m) = sound_walks::walk_blocks(&tables, t, b, e, &noted) else {
         return false;
     };
     n == m

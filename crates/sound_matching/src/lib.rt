@@ -8,7 +8,7 @@ ghost use Rattle.sound_matching.specs.Match.{first};
 ghost use Rattle.sound_matching.specs.Agreed.{agrees, agreed, agreed_as_noted};
 
 use picture::Table;
-use picture_tables::field_of;
+use picture_tables::Tables;
 
 // The first position whose entry has a block.
 pub fn first_of(t: Table) -> usize
@@ -22,17 +22,17 @@ pub fn first_of(t: Table) -> usize
 
 // The block at i and the record of position k agree: base and owner.
 #[tactic(auto, unfolding(crate::specs::Agreed::agrees))]
-pub fn is_agreeing(p: &[u32], t: Table, k: usize, i: usize) -> bool
-    requires { (heap_base ≤ length p.now) × ((k < positions t) × ((i + holder_field < length p.now) × (i < 8589934592))) }
+pub fn is_agreeing(p: &Tables<'_>, t: Table, k: usize, i: usize) -> bool
+    requires { (k < positions t) × ((i + holder_field < length p.now) × (i < 8589934592)) }
     ensures { result ≡ agrees p.now t k i }
 {
-    field_of(p, t, k, picture::BASE) as usize == 4 * i
-        && field_of(p, t, k, picture::OWNER) == picture::word_at(p, i + blocks::HOLDER)
+    p.field_of(t, k, picture::BASE) as usize == 4 * i
+        && p.field_of(t, k, picture::OWNER) == p.word_at(i + blocks::HOLDER)
 }
 
 // The block at i agrees with some record of the table, which is looked for among all.
-pub fn is_agreed(p: &[u32], t: Table, i: usize) -> bool
-    requires { (heap_base ≤ length p.now) × ((i + holder_field < length p.now) × (i < 8589934592)) }
+pub fn is_agreed(p: &Tables<'_>, t: Table, i: usize) -> bool
+    requires { (i + holder_field < length p.now) × (i < 8589934592) }
     ensures { result ≡ agreed p.now t i }
 {
     (0..picture::positions_of(t)).any(|k| is_agreeing(p, t, k, i))
@@ -41,8 +41,8 @@ pub fn is_agreed(p: &[u32], t: Table, i: usize) -> bool
 // The block at i agrees with the record at the position noted for its place. A byte is a position to look at first: where none was noted it is 0, which is
 // looked at like any other, so `Option<u8>` would add a way out and tell nothing.
 #[tactic(auto, unfolding(crate::specs::Agreed::agreed_as_noted))]
-pub fn is_agreed_as_noted(p: &[u32], t: Table, i: usize, noted: &[u8; 64]) -> bool
-    requires { (heap_base ≤ length p.now) × ((i + holder_field < length p.now) × (i < 8589934592)) }
+pub fn is_agreed_as_noted(p: &Tables<'_>, t: Table, i: usize, noted: &[u8; 64]) -> bool
+    requires { (i + holder_field < length p.now) × (i < 8589934592) }
     ensures { result ≡ agreed_as_noted p.now t i noted.now }
 {
     let k = usize::from(noted[i / 4 % 64]);

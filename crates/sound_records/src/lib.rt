@@ -11,51 +11,51 @@ ghost use Rattle.sound_records.specs.Rules.{positioned, ends_in_one, tag_within,
 ghost use Rattle.sound_records.specs.Rules.{may_be_unowned, owner_live, tag_given};
 
 use picture::{NOBODY, Table};
-use picture_tables::{field_of, is_live, is_used};
+use picture_tables::Tables;
 
 // The tag of the number at position k.
-pub fn tag_at(p: &[u32], t: Table, k: usize) -> u32
-    requires { (heap_base ≤ length p.now) × (k < positions t) }
+pub fn tag_at(p: &Tables<'_>, t: Table, k: usize) -> u32
+    requires { k < positions t }
     ensures { result ≡ tag (number p.now t k) }
 {
-    picture::tag_of(field_of(p, t, k, picture::NUMBER))
+    picture::tag_of(p.field_of(t, k, picture::NUMBER))
 }
 
 // The record of a channel in use ends in 1.
 #[tactic(auto, unfolding(crate::specs::Rules::ends_in_one))]
-pub fn ends_in_one(p: &[u32], k: usize) -> bool
-    requires { (heap_base ≤ length p.now) × ((k < positions Channels) × (used p.now Channels k ≡ true)) }
+pub fn ends_in_one(p: &Tables<'_>, k: usize) -> bool
+    requires { (k < positions Channels) × (used p.now Channels k ≡ true) }
     ensures { result ≡ ends_in_one p.now k }
 {
-    field_of(p, Table::Channels, k, picture::ENDING) == 1
+    p.field_of(Table::Channels, k, picture::ENDING) == 1
 }
 
 // Every field of the record is zero; WIDTH is how many it has. With that known the loop is unrolled, since it has no way out: `(0..WIDTH).all(..)`, which
 // leaves at a field that isn't zero, takes five instructions more for each record that is not in use.
-pub fn is_all_zero<const WIDTH: usize>(p: &[u32], t: Table, k: usize) -> bool
-    requires { (heap_base ≤ length p.now) × ((k < positions t) × (WIDTH ≡ width t)) }
+pub fn is_all_zero<const WIDTH: usize>(p: &Tables<'_>, t: Table, k: usize) -> bool
+    requires { (k < positions t) × (WIDTH ≡ width t) }
     ensures { result ≡ all_zero p.now t k }
 {
     let mut zero = true;
     for f in 0..WIDTH {
-        zero &= field_of(p, t, k, f) == 0;
+        zero &= p.field_of(t, k, f) == 0;
     }
     zero
 }
 
 // A number in use has its position.
 #[tactic(auto, unfolding(crate::specs::Rules::positioned))]
-pub fn is_positioned(p: &[u32], t: Table, k: usize) -> bool
-    requires { (heap_base ≤ length p.now) × ((k < positions t) × (used p.now t k ≡ true)) }
+pub fn is_positioned(p: &Tables<'_>, t: Table, k: usize) -> bool
+    requires { (k < positions t) × (used p.now t k ≡ true) }
     ensures { result ≡ positioned p.now t k }
 {
-    picture::position_of(field_of(p, t, k, picture::NUMBER)) == k
+    picture::position_of(p.field_of(t, k, picture::NUMBER)) == k
 }
 
 // A tag in use is 1 to 32,767, but for job 0.
 #[tactic(auto, unfolding(crate::specs::Rules::tag_within, sound_matching::specs::Match::has_block))]
-pub fn tag_within(p: &[u32], t: Table, k: usize) -> bool
-    requires { (heap_base ≤ length p.now) × ((k < positions t) × (used p.now t k ≡ true)) }
+pub fn tag_within(p: &Tables<'_>, t: Table, k: usize) -> bool
+    requires { (k < positions t) × (used p.now t k ≡ true) }
     ensures { result ≡ tag_within p.now t k }
 {
     let tag = tag_at(p, t, k);
@@ -64,16 +64,16 @@ pub fn tag_within(p: &[u32], t: Table, k: usize) -> bool
 
 // Positions j and k have different tags, or j is not in use.
 #[tactic(auto, unfolding(crate::specs::Rules::tags_differ))]
-pub fn tags_differ(p: &[u32], t: Table, k: usize, j: usize) -> bool
-    requires { (heap_base ≤ length p.now) × ((k < positions t) × (j < positions t)) }
+pub fn tags_differ(p: &Tables<'_>, t: Table, k: usize, j: usize) -> bool
+    requires { (k < positions t) × (j < positions t) }
     ensures { result ≡ tags_differ p.now t k j }
 {
-    tag_at(p, t, j) != tag_at(p, t, k) || !is_used(p, t, j)
+    tag_at(p, t, j) != tag_at(p, t, k) || !p.is_used(t, j)
 }
 
 // No lower position in use has the same tag.
-pub fn tag_alone(p: &[u32], t: Table, k: usize) -> bool
-    requires { (heap_base ≤ length p.now) × (k < positions t) }
+pub fn tag_alone(p: &Tables<'_>, t: Table, k: usize) -> bool
+    requires { k < positions t }
     ensures { result ≡ every (tags_differ p.now t k) k }
 {
     (0..k).all(|j| tags_differ(p, t, k, j))
@@ -91,19 +91,19 @@ pub fn may_be_unowned(t: Table) -> bool
 
 // The owner of an entry in use is live, or nobody for a job.
 #[tactic(auto, unfolding(crate::specs::Rules::owner_live))]
-pub fn owner_live(p: &[u32], t: Table, k: usize) -> bool
-    requires { (heap_base ≤ length p.now) × ((k < positions t) × (used p.now t k ≡ true)) }
+pub fn owner_live(p: &Tables<'_>, t: Table, k: usize) -> bool
+    requires { (k < positions t) × (used p.now t k ≡ true) }
     ensures { result ≡ owner_live p.now t k }
 {
-    let owner = field_of(p, t, k, picture::OWNER);
-    (may_be_unowned(t) & (owner == NOBODY)) || is_live(p, Table::Jobs, owner)
+    let owner = p.field_of(t, k, picture::OWNER);
+    (may_be_unowned(t) & (owner == NOBODY)) || p.is_live(Table::Jobs, owner)
 }
 
 // A tag in use doesn't pass the last given.
 #[tactic(auto, unfolding(crate::specs::Rules::tag_given))]
-pub fn tag_given(p: &[u32], t: Table, k: usize) -> bool
-    requires { (heap_base ≤ length p.now) × ((k < positions t) × (used p.now t k ≡ true)) }
+pub fn tag_given(p: &Tables<'_>, t: Table, k: usize) -> bool
+    requires { (k < positions t) × (used p.now t k ≡ true) }
     ensures { result ≡ tag_given p.now t k }
 {
-    tag_at(p, t, k) <= picture::word_at(p, picture::last_of(t))
+    tag_at(p, t, k) <= p.last_tag(t)
 }

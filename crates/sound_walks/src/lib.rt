@@ -7,7 +7,8 @@ ghost use Rattle.picture.specs.declared.Table.TheVariants.{Jobs, Channels};
 ghost use Rattle.blocks.specs.Header.{start_field};
 ghost use Rattle.sound_walks.specs.Walks.{free_fine, held_fine, block_fine, blocks_walked};
 
-use picture::{Table, word_at};
+use picture::Table;
+use picture_tables::Tables;
 
 // The rules of a free block, in an area that ends at e.
 #[tactic(auto, unfolding(crate::specs::Walks::free_fine))]
@@ -20,38 +21,38 @@ pub fn is_free_fine(p: &[u32], e: usize, i: usize) -> bool
 
 // The rules of a block of the transient area that is not free.
 #[tactic(auto, using(sound_matching::proofs::Agreeing::noted_agreed), unfolding(crate::specs::Walks::held_fine))]
-pub fn is_transient_fine(p: &[u32], i: usize, noted: &[u8; 64]) -> bool
-    requires { (heap_base ≤ length p.now) × ((i + start_field < length p.now) × (i < 8589934592)) }
+pub fn is_transient_fine(p: &Tables<'_>, i: usize, noted: &[u8; 64]) -> bool
+    requires { (i + start_field < length p.now) × (i < 8589934592) }
     ensures { result ≡ held_fine p.now Jobs i }
 {
-    word_at(p, i + blocks::KIND) == blocks::JOB
+    p.word_at(i + blocks::KIND) == blocks::JOB
         && (sound_matching::is_agreed_as_noted(p, Table::Jobs, i, noted)
             || sound_matching::is_agreed(p, Table::Jobs, i))
 }
 
 // The rules of a block of the heap that is not free.
 #[tactic(auto, using(sound_matching::proofs::Agreeing::noted_agreed), unfolding(crate::specs::Walks::held_fine))]
-pub fn is_heap_fine(p: &[u32], i: usize, noted: &[u8; 64]) -> bool
-    requires { (heap_base ≤ length p.now) × ((i + start_field < length p.now) × (i < 8589934592)) }
+pub fn is_heap_fine(p: &Tables<'_>, i: usize, noted: &[u8; 64]) -> bool
+    requires { (i + start_field < length p.now) × (i < 8589934592) }
     ensures { result ≡ held_fine p.now Channels i }
 {
-    if word_at(p, i + blocks::START) != 0 {
+    if p.word_at(i + blocks::START) != 0 {
         return false;
     }
-    let kind = word_at(p, i + blocks::KIND);
+    let kind = p.word_at(i + blocks::KIND);
     if kind == blocks::PLAIN {
-        return picture_tables::is_live(p, Table::Jobs, word_at(p, i + blocks::HOLDER));
+        return p.is_live(Table::Jobs, p.word_at(i + blocks::HOLDER));
     }
     kind == blocks::QUEUE
-        && sound_areas::queue_room(p, i)
+        && sound_areas::queue_room(p.longwords(), i)
         && (sound_matching::is_agreed_as_noted(p, Table::Channels, i, noted)
             || sound_matching::is_agreed(p, Table::Channels, i))
 }
 
 // The rules of a block of the table's area that is not free.
 #[tactic(auto, unfolding(crate::specs::Walks::held_fine))]
-pub fn is_held_fine(p: &[u32], t: Table, i: usize, noted: &[u8; 64]) -> bool
-    requires { (heap_base ≤ length p.now) × ((i + start_field < length p.now) × (i < 8589934592)) }
+pub fn is_held_fine(p: &Tables<'_>, t: Table, i: usize, noted: &[u8; 64]) -> bool
+    requires { (i + start_field < length p.now) × (i < 8589934592) }
     ensures { result ≡ held_fine p.now t i }
 {
     match t {
@@ -62,27 +63,27 @@ pub fn is_held_fine(p: &[u32], t: Table, i: usize, noted: &[u8; 64]) -> bool
 
 // The rules of the block at i of the table's area, which ends at e.
 #[tactic(auto, unfolding(crate::specs::Walks::block_fine))]
-pub fn is_block_fine(p: &[u32], t: Table, e: usize, i: usize, noted: &[u8; 64]) -> bool
-    requires { (heap_base ≤ length p.now) × ((i < e) × ((e ≤ length p.now) × (e < 8589934592))) }
+pub fn is_block_fine(p: &Tables<'_>, t: Table, e: usize, i: usize, noted: &[u8; 64]) -> bool
+    requires { (i < e) × ((e ≤ length p.now) × (e < 8589934592)) }
     ensures { result ≡ block_fine p.now t e i }
 {
-    if !sound_areas::length_whole(p, i) {
+    let longwords = p.longwords();
+    if !sound_areas::length_whole(longwords, i) {
         return false;
     }
-    if !sound_areas::is_within(p, e, i) {
+    if !sound_areas::is_within(longwords, e, i) {
         return false;
     }
-    if word_at(p, i + blocks::KIND) == blocks::FREE {
-        return is_free_fine(p, e, i);
+    if p.word_at(i + blocks::KIND) == blocks::FREE {
+        return is_free_fine(longwords, e, i);
     }
     is_held_fine(p, t, i, noted)
 }
 
 // A walk over the blocks from b to e of the table's area: none where one of them breaks a rule, or how many blocks of the table's kind there are. A step
-// goes by the length that the block at hand says, so an iterator would have a type of its own, with a state and a proof that it ends: no plainer than this
-// `while`.
-pub fn walk_blocks(p: &[u32], t: Table, b: usize, e: usize, noted: &[u8; 64]) -> Option<usize>
-    requires { (heap_base ≤ length p.now) × ((e ≤ length p.now) × (e < 8589934592)) }
+// goes by the length that the block at hand says: `Blocks` would test once more that the block is whole, as `is_block_fine` has.
+pub fn walk_blocks(p: &Tables<'_>, t: Table, b: usize, e: usize, noted: &[u8; 64]) -> Option<usize>
+    requires { (e ≤ length p.now) × (e < 8589934592) }
     ensures { result ≡ blocks_walked p.now t b e }
 {
     let kind = blocks::kind_of(t);
@@ -92,8 +93,8 @@ pub fn walk_blocks(p: &[u32], t: Table, b: usize, e: usize, noted: &[u8; 64]) ->
         if !is_block_fine(p, t, e, i, noted) {
             return None;
         }
-        found += usize::from(word_at(p, i + blocks::KIND) == kind);
-        i += word_at(p, i) as usize / 4;
+        found += usize::from(p.word_at(i + blocks::KIND) == kind);
+        i += p.word_at(i) as usize / 4;
     }
     Some(found)
 }

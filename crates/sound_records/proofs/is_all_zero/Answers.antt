@@ -9,5 +9,5 @@ pub returns : goal.returns
 unfolding all_zero
 returns g c =
     let a = c.args in
-    let e : c.loop-f.f ≡ width a.t = omega (arith, c.requires.1.1, c.loop-f-test.false, c.loop-f.auto.f-end) in
+    let e : c.loop-f.f ≡ width a.t = omega (arith, c.requires.1, c.loop-f-test.false, c.loop-f.auto.f-end) in
     c.loop-f.invariant ∙ ap (every (λ (f : ℕ). eqb (field a.p.now a.t a.k f) 0)) e

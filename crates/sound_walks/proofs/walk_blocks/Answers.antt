@@ -13,17 +13,17 @@ returns-then-not-is_block_fine c = left_broken _ _ _ _ _ _ c.loop-i.invariant c.
 pub word_at-requires : goal.word_at-requires
 word_at-requires c =
     let w = fine_within c.args.p.now c.args.t c.args.e c.loop-i.i (sym c.is_block_fine.ensures ∙ c.if-not-is_block_fine.false) in
-    omega (arith, c.requires.1.0)
+    omega (arith, c.requires.0)
 
 pub word_at-requires-in-loop-i : goal.word_at-requires-in-loop-i
-word_at-requires-in-loop-i c = omega (arith, c.requires.1.0, c.loop-i-test.true)
+word_at-requires-in-loop-i c = omega (arith, c.requires.0, c.loop-i-test.true)
 
 pub overflow_add-i-in-loop-i : goal.overflow_add-i-in-loop-i
 overflow_add-i-in-loop-i c =
     let a = c.args in
     let z = fine_next a.p.now a.t a.e c.loop-i.i c.word_at-in-loop-i.result c.word_at-in-loop-i.ensures (sym c.is_block_fine.ensures ∙ c.if-not-is_block_fine.false) in
     let n = next_le a.p.now c.loop-i.i a.e in
-    omega (arith, c.requires.1.1)
+    omega (arith, c.requires.1)
 
 pub loop-i-smaller : goal.loop-i-smaller
 loop-i-smaller c =
