@@ -13,7 +13,7 @@ ghost use Rattle.turns.specs.Tick.{fallen, ticked};
 use picture::{
     ACCUMULATED, CURRENT_WORD, DONE, HOLD, JOBS, KEY, NOBODY, NUMBER, PRIORITY, TIMEOUT, Table,
 };
-use picture_tables::{field_of, is_ready, put_field, timeout_of};
+use picture_tables::{Tables, put_field};
 use words::{bits_of, put, signed_of};
 
 // What a pick answers: the number of the job picked, and its key to deliver.
@@ -24,25 +24,24 @@ pub struct Picked {
 }
 
 // The job at m, or the one at position k where that is ready and has accumulated more.
-fn preferred(p: &[u32], m: usize, k: usize) -> usize
-    requires { (heap_base ≤ length p.now) × ((k < positions Jobs) × (m ≤ positions Jobs)) }
+fn preferred(p: &Tables<'_>, m: usize, k: usize) -> usize
+    requires { (k < positions Jobs) × (m ≤ positions Jobs) }
     ensures { result ≡ preferred p.now m k }
 {
-    if !is_ready(p, k) {
+    if !p.is_ready(k) {
         return m;
     }
     if m == JOBS {
         return k;
     }
-    if field_of(p, Table::Jobs, m, ACCUMULATED) < field_of(p, Table::Jobs, k, ACCUMULATED) {
+    if p.field_of(Table::Jobs, m, ACCUMULATED) < p.field_of(Table::Jobs, k, ACCUMULATED) {
         return k;
     }
     m
 }
 
 // The position of the job that the pick takes, the number of positions for nobody.
-pub fn chosen_job(p: &[u32]) -> usize
-    requires { heap_base ≤ length p.now }
+pub fn chosen_job(p: &Tables<'_>) -> usize
     ensures { (result ≡ chosen_job p.now) × (result ≤ positions Jobs) }
 {
     let mut m = JOBS;
@@ -66,18 +65,18 @@ fn gained(accumulated: u32, priority: u32) -> u32
 }
 
 // What position k has accumulated once the job at m was picked.
-fn accumulated_after(p: &[u32], m: usize, k: usize) -> u32
-    requires { (heap_base ≤ length p.now) × (k < positions Jobs) }
+fn accumulated_after(p: &Tables<'_>, m: usize, k: usize) -> u32
+    requires { k < positions Jobs }
     ensures { result ≡ accumulated_after p.now m k }
 {
     if k == m {
         return 0;
     }
-    let accumulated = field_of(p, Table::Jobs, k, ACCUMULATED);
-    if !is_ready(p, k) {
+    let accumulated = p.field_of(Table::Jobs, k, ACCUMULATED);
+    if !p.is_ready(k) {
         return accumulated;
     }
-    gained(accumulated, field_of(p, Table::Jobs, k, PRIORITY))
+    gained(accumulated, p.field_of(Table::Jobs, k, PRIORITY))
 }
 
 // Every ready job but the one at m gains, and m's accumulated is 0.
@@ -86,7 +85,7 @@ fn give_gains(p: &mut [u32], m: usize)
     ensures { p.new ≡ set_each p.old accumulated_field (accumulated_after p.old m) (positions Jobs) }
 {
     for k in 0..JOBS {
-        let v = accumulated_after(p, m, k);
+        let v = accumulated_after(&Tables::new(p), m, k);
         put_field(p, Table::Jobs, k, ACCUMULATED, v);
     }
 }
@@ -97,7 +96,8 @@ pub fn pick_turn(p: &mut [u32]) -> Picked
     ensures p_after { p.new ≡ picked p.old }
     ensures value { result ≡ answer p.old }
 {
-    let m = chosen_job(p);
+    let tables = Tables::new(p);
+    let m = chosen_job(&tables);
     if m == JOBS {
         put(p, CURRENT_WORD, NOBODY);
         return Picked {
@@ -105,8 +105,8 @@ pub fn pick_turn(p: &mut [u32]) -> Picked
             key: DONE,
         };
     }
-    let number = field_of(p, Table::Jobs, m, NUMBER);
-    let key = signed_of(field_of(p, Table::Jobs, m, KEY));
+    let number = tables.field_of(Table::Jobs, m, NUMBER);
+    let key = signed_of(tables.field_of(Table::Jobs, m, KEY));
     give_gains(p, m);
     put_field(p, Table::Jobs, m, KEY, 0);
     put(p, CURRENT_WORD, number);
@@ -129,7 +129,7 @@ pub fn tick_frame(p: &mut [u32])
     ensures { p.new ≡ ticked p.old }
 {
     for k in 0..JOBS {
-        let timeout = timeout_of(p, k);
+        let timeout = Tables::new(p).timeout_of(k);
         put_field(p, Table::Jobs, k, TIMEOUT, bits_of(fallen(timeout)));
     }
 }

@@ -1,4 +1,4 @@
-use Prim.Native.Nat.{◌-◌, ◌≤◌}
+use Prim.Native.Nat.{◌≤◌}
 use mathlib.Core.Path.{◌≡◌, ◌∙◌, ap}
 use Rattle.picture.specs.declared.Table.TheVariants.{Jobs}
 use Rattle.picture.specs.Layout.{positions}

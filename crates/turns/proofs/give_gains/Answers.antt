@@ -1,4 +1,3 @@
-use Prim.Native.Nat.{◌-◌}
 use lib.ListN.{length-set}
 use mathlib.Core.Path.{◌≡◌, refl, ◌∙◌, ap}
 use Rattle.picture.specs.Records.{accumulated_field}
@@ -18,7 +17,7 @@ pub loop-k-preserved : goal.loop-k-preserved
 loop-k-preserved c =
     let d = c.loop-k in
     let a = c.args in
-    (omega arith, rw c.put_field.ensures (simp length-set d.invariant.1), c.put_field.ensures ∙ set_each_next a.p.now accumulated_field (accumulated_after a.p.now a.m) d.p d.k c.accumulated_after-v.result d.invariant.2 (c.accumulated_after-v.ensures ∙ gain_ahead a.p.now d.p a.m d.k d.invariant.2))
+    (omega arith, rw c.put_field.ensures (simp length-set d.invariant.1), c.put_field.ensures ∙ set_each_next a.p.now accumulated_field (accumulated_after a.p.now a.m) d.p d.k c.accumulated_after-v.result d.invariant.2 ((rw c.new.ensures at c.accumulated_after-v.ensures) ∙ gain_ahead a.p.now d.p a.m d.k d.invariant.2))
 
 pub returns : goal.returns
 returns c =

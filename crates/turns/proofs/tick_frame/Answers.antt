@@ -1,4 +1,4 @@
-use Prim.Native.Nat.{ℕ, ◌-◌}
+use Prim.Native.Nat.{ℕ}
 use lib.ListN.{length-set}
 use mathlib.Core.Path.{◌≡◌, refl, ◌∙◌, ap}
 use mathlib.Core.List.{List}
@@ -28,7 +28,7 @@ loop-k-preserved c =
     let same =
     ap (λ (x : List ℕ). timeout x d.k) d.invariant.2
     ∙ timeout_same p (set_each p timeout_field (after p) d.k) d.k (later_record_stays p timeout_field (after p) (omega arith) d.k d.k timeout_field (omega arith) (omega arith)) in
-    let read = to_z-of_z w32 c.timeout_of-timeout.result (record { sfits = c.timeout_of-timeout.type_inv }) ∙ c.timeout_of-timeout.ensures ∙ same in
+    let read = to_z-of_z w32 c.timeout_of-timeout.result (record { sfits = c.timeout_of-timeout.type_inv }) ∙ (rw c.new.ensures at c.timeout_of-timeout.ensures) ∙ same in
     let less = to_z-of_z w32 f.result (record { sfits = f.type_inv }) ∙ f.ensures ∙ ap fallen read in
     (omega arith, rw c.put_field.ensures (simp length-set d.invariant.1), c.put_field.ensures ∙ set_each_next p timeout_field (after p) d.p d.k b.result d.invariant.2 (b.ensures ∙ ap bits less))
 
