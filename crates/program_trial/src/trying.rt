@@ -1,3 +1,5 @@
+ghost use Rattle.std.specs.Prelude.{◌≤◌, length};
+
 use crate::{Answer, report, reporting, room, telling};
 use program_fields::{Call, Trial};
 
@@ -35,15 +37,13 @@ fn make_call(p: &mut [u32], call: Call, registers: &mut [u32], field: &[u8]) -> 
     }
 }
 
-// Makes a trial's call on a picture, of which `before` is a copy, and answers it.
-fn try_call(
-    p: &mut [u32],
-    before: &[u32],
-    call: Call,
-    registers: &mut [u32],
-    field: &[u8],
-    out: &mut [u8],
-) -> usize {
+// Makes a trial's call on a picture and answers it. The picture before it is kept in a room of this function, so only a line that makes a call pays for one.
+fn try_call(p: &mut [u32], call: Call, registers: &mut [u32], field: &[u8], out: &mut [u8]) -> usize
+    requires { length p.old ≤ 16400 }
+{
+    let mut kept = [0; room::PICTURE];
+    let before = &mut kept[..p.len()];
+    before.copy_from_slice(p);
     let answer = make_call(p, call, registers, field);
     report::write_answer(p, before, answer, registers, out)
 }
@@ -60,17 +60,13 @@ pub fn answer_call(line: &[u8], out: &mut [u8]) -> usize {
                 registers: count,
                 size,
             },
-        ) => {
-            let before = p;
-            try_call(
-                &mut p[..size],
-                &before,
-                call,
-                &mut registers[..count],
-                &line[..characters],
-                out,
-            )
-        }
+        ) => try_call(
+            &mut p[..size],
+            call,
+            &mut registers[..count],
+            &line[..characters],
+            out,
+        ),
         Some(Trial::Report { top, lent, size }) => {
             reporting::answer_report(&p[..size], top, lent, out)
         }
