@@ -35,7 +35,9 @@ report_lines p top lent = cond (eq_z (report_key p top lent) done) (tree_lines p
 abbrev pub lines_left : Lines → List JobLine
 lines_left lines = lines_from lines.count lines.picture.now lines.members lines.top lines.number
 
--- a report that has begun is done, and the lines to come are the report's; one that is refused has the refusal's key, and no line
+-- a report that has begun is done, the lines to come are the report's, and so are those of its members below its top from `top` on; one that is refused
+-- has the refusal's key, and no line
 abbrev pub Begins : List ℕ → ℕ → ℕ → Result Lines Refusal → Type 0
 Begins p top lent (Ok lines) = (done ≡ report_key p top lent) × (lines.count ≤ lent) × (lines_left lines ≡ report_lines p top lent)
+    × (lines_from lines.count p lines.members lines.top top ≡ report_lines p top lent)
 Begins p top lent (Err refusal) = (refusal_key refusal ≡ report_key p top lent) × ([] ≡ report_lines p top lent)

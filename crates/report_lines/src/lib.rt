@@ -24,12 +24,12 @@ pub struct JobLine {
 
 // The lines of a report that are still to come: how many they are, the picture, the positions of the members and that of the top, and the
 // number of the member whose line is the next.
-#[derive(Drop)]
+#[derive(Clone, Copy)]
 pub struct Lines<'a> {
     pub count: usize,
     picture: &'a [u32],
-    members: u64,
-    top: usize,
+    pub members: u64,
+    pub top: usize,
     number: u32,
 }
 

@@ -15,6 +15,6 @@ returns-then-lent-count c =
 
 pub returns : goal.returns
 returns c =
-    rw (c.size_of-count.ensures, c.tree_of-members.ensures)
-    (where_told _ _ _ (sym c.is_sound.ensures ∙ c.if-not-is_sound.false) _ (sym c.entry_at.ensures ∙ c.in-Some.is)
-    (rw (c.size_of-count.ensures, c.tree_of-members.ensures) at c.if-lent-count.false))
+    let w = where_told _ _ _ (sym c.is_sound.ensures ∙ c.if-not-is_sound.false) _ (sym c.entry_at.ensures ∙ c.in-Some.is)
+    (rw (c.size_of-count.ensures, c.tree_of-members.ensures) at c.if-lent-count.false) in
+    rw (c.size_of-count.ensures, c.tree_of-members.ensures) (w.0, w.1, w.2, w.2)
