@@ -1,7 +1,7 @@
 // What a line of a session comes to.
 #![tactic(auto)]
 
-ghost use Rattle.std.specs.Prelude.{List, ℕ};
+ghost use Rattle.std.specs.Prelude.{◌≡◌, List, ℕ, length};
 ghost use Rattle.program_lines.specs.Frames.{bad, picks, ticks, frame};
 ghost use Rattle.program_replies.specs.Reply.{reply, Replied, Comes};
 
@@ -18,7 +18,8 @@ pub enum Answer {
 const LONGEST_NAME: usize = 223;
 
 // A bad line gives its key alone, whatever the picture.
-fn refuse(registers: &mut [u32; 8]) -> usize
+fn refuse(registers: &mut [u32]) -> usize
+    requires { 8 ≡ length registers.old }
     ensures { (q : List ℕ) → Replied (reply bad q) result q registers.old registers.new }
 {
     registers[0] = words::bits_of(picture::BAD_PARAMETER);
@@ -26,7 +27,8 @@ fn refuse(registers: &mut [u32; 8]) -> usize
 }
 
 // A pick gives its number and its key.
-fn pick(p: &mut [u32], registers: &mut [u32; 8]) -> usize
+fn pick(p: &mut [u32], registers: &mut [u32]) -> usize
+    requires { 8 ≡ length registers.old }
     ensures { Replied (reply picks p.old) result p.new registers.old registers.new }
 {
     let picked = manager::pick(p);
@@ -36,7 +38,8 @@ fn pick(p: &mut [u32], registers: &mut [u32; 8]) -> usize
 }
 
 // A tick gives its key.
-fn tick(p: &mut [u32], registers: &mut [u32; 8]) -> usize
+fn tick(p: &mut [u32], registers: &mut [u32]) -> usize
+    requires { 8 ≡ length registers.old }
     ensures { Replied (reply ticks p.old) result p.new registers.old registers.new }
 {
     let key = manager::tick(p);
@@ -45,7 +48,8 @@ fn tick(p: &mut [u32], registers: &mut [u32; 8]) -> usize
 }
 
 // Does what a line asks for. A reply of one line stands in the registers' room.
-pub fn answer_frame(p: &mut [u32], line: &[u8], registers: &mut [u32; 8]) -> Answer
+pub fn answer_frame(p: &mut [u32], line: &[u8], registers: &mut [u32]) -> Answer
+    requires { 8 ≡ length registers.old }
     ensures { Comes (frame line.now) p.old result p.new registers.old registers.new }
 {
     let mut name = [0; LONGEST_NAME];

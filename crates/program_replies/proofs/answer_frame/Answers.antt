@@ -10,8 +10,8 @@ slice_bounds-name-end c =
     let t = trap_read c.args.line.now w.trap w.count (sym c.read_line.ensures.kind ∙ w.is ∙ ap Some w.field-0-is) in
     omega (arith, t.short, c.read_line.auto.name)
 
-pub slice_bounds-call-end-in-Some-Trap : goal.slice_bounds-call-end-in-Some-Trap
-slice_bounds-call-end-in-Some-Trap c =
+pub slice_bounds-call-end : goal.slice_bounds-call-end
+slice_bounds-call-end c =
     let w = c.in-Some-Trap in
     let t = trap_read c.args.line.now w.trap w.count (sym c.read_line.ensures.kind ∙ w.is ∙ ap Some w.field-0-is) in
     sym (length-take-le _ _ (omega (arith, t.short, c.read_line.auto.name)))
@@ -27,4 +27,4 @@ returns-in-Some-Trap c =
     let r = c.read_line in
     trap_replied (frame c.args.line.now) _ _ c.args.p.now c.args.registers.now _ c.call.new.p c.call.new.d c.call.result
     (trap_read c.args.line.now w.trap w.count (sym r.ensures.kind ∙ w.is ∙ ap Some w.field-0-is))
-    (omega arith) refl (rw (r.ensures.registers, r.ensures.name) at c.call.ensures) (omega (arith, r.auto.registers, c.call.auto.d))
+    c.requires refl (rw (r.ensures.registers, r.ensures.name) at c.call.ensures) (omega (arith, c.requires, r.auto.registers, c.call.auto.d))

@@ -5,4 +5,4 @@ use Rattle.program_replies.proofs.Replies.{put_there}
 use Rattle.program_replies.proofs.refuse.Goals as goal
 
 pub returns : goal.returns
-returns c q = rw c.bits_of.ensures (put_there (bits bad_parameter ∷ []) q c.args.registers.now (omega arith))
+returns c q = rw c.bits_of.ensures (put_there (bits bad_parameter ∷ []) q c.args.registers.now (omega (arith, c.requires)))
