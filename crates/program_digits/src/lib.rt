@@ -8,6 +8,7 @@ ghost use Rattle.std.proofs.lemmas.List.Edits.{sets};
 ghost use Rattle.program_digits.specs.Digits.{digit, digits, number, numbers, read};
 
 // The character is a digit: 0 to 9, A to F, a to f.
+#[tactic(auto, using(crate::proofs::Reader::digit_ranges))]
 fn is_digit(character: u8) -> bool
     ensures { result ≡ is_some (digit character) }
 {
